@@ -1,0 +1,5 @@
+pub mod Causes
+pub mod Devices
+pub mod Name
+pub mod Refusal
+pub mod Rows
