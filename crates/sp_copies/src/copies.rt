@@ -1,4 +1,4 @@
-ghost use Rattle.std.specs.Prelude.{◌≡◌, ◌≤◌, ◌<◌, ◌+◌, ◌^◌, ◌-◌, ℕ, IfOk, OnOk, min};
+ghost use Rattle.std.specs.Prelude.{◌≡◌, ◌↔◌, ◌≤◌, ◌<◌, ◌+◌, ◌^◌, ◌-◌, ℕ, IfOk, OnOk, min};
 ghost use Rattle.sp_copies.specs.History.{History, empty_history, used_bytes, with_made};
 ghost use Rattle.sp_copies.specs.Counts.{made_count, spooled_count, accepted_count, moved_count, discarded_count, cause_counts, used_in};
 ghost use Rattle.sp_copies.specs.Kept.{Records};
@@ -46,9 +46,10 @@ impl Copies {
         }
     }
 
-    /// Makes room for `more` copies, with what their later closing needs.
+    /// Makes room for `more` copies, with what their later closing needs. The store stands for the
+    /// same histories, with memory or without.
     pub fn reserve(&mut self, more: usize) -> Result<(), AllocError>
-        ensures same { (H : History) → Records self.old H → Records self.new H }
+        ensures same { (H : History) → Records self.old H ↔ Records self.new H }
         ensures room { OnOk result (more ≤ self.new.spare) }
         ensures kept { self.old.spare ≤ self.new.spare }
     {

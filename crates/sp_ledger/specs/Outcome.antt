@@ -1,5 +1,5 @@
 -- What a unit of events comes to.
-use Rattle.std.specs.Prelude.{List, [], ◌∷◌, Option, Some, None, max, ℕ, ◌+◌}
+use Rattle.std.specs.Prelude.{List, [], ◌∷◌, Option, Some, None, max, ℕ, ◌+◌, Bool, true, false}
 use Rattle.sp_base.specs.declared.refusal.Refusal.{Refusal}
 use Rattle.sp_event.specs.declared.answer.Reply.{Reply}
 use Rattle.sp_ledger.specs.Ledger.{Ledger}
@@ -23,3 +23,9 @@ decided None done = accepted done.ledger (done.reply ∷ [])
 -- one more unit, at the later of both moments
 abbrev pub with_unit : ℕ → Ledger → Ledger
 with_unit moment L = record L { next = record L.next { unit = L.next.unit + 1 }; now = max L.now moment }
+
+-- accepted without changing anything
+abbrev pub is_idle : Outcome → Bool
+is_idle (refused refusal) = false
+is_idle (idle told) = true
+is_idle (accepted M told) = false
