@@ -3,5 +3,8 @@
 #![tactic(auto)]
 
 mod fields;
+pub mod line;
 pub mod op;
 pub mod read;
+mod refusals;
+mod replies;
