@@ -1,0 +1,5 @@
+pub mod Cut
+pub mod Entry
+pub mod Head
+pub mod Numeral
+pub mod Parse
