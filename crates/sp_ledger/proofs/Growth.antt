@@ -12,13 +12,16 @@ use Rattle.sp_copies.specs.History.{is_made, numbered}
 use Rattle.sp_event.specs.declared.answer.PublishedCopy.{PublishedCopy}
 use Rattle.sp_event.specs.declared.answer.Reply.{Reply}
 use Rattle.sp_event.specs.declared.answer.Reply.TheVariants as replies
+use Rattle.sp_base.specs.declared.refusal.Refusal.{Refusal}
 use Rattle.sp_event.specs.declared.request.Event.{Event}
+use Rattle.sp_event.specs.declared.request.Event.TheVariants as events
 use Rattle.sp_ledger.specs.Checks.{first_refusal}
 use Rattle.sp_ledger.specs.Extends.{Extends, TellsMade}
 use Rattle.sp_ledger.specs.Ledger.{Ledger, Endpoint, named}
-use Rattle.sp_ledger.specs.Outcome.{accepted}
+use Rattle.sp_ledger.specs.Balance.{TellsBalanced}
+use Rattle.sp_ledger.specs.Outcome.{idle, accepted, Stepped, decided}
 use Rattle.sp_ledger.specs.Provision.{provision_checks, provisioned}
-use Rattle.sp_ledger.specs.Publish.{publish_checks, published, copy_for}
+use Rattle.sp_ledger.specs.Publish.{publish_checks, published, publish_to, copy_for}
 use Rattle.sp_ledger.specs.Step.{unit_step}
 use Rattle.sp_ledger.proofs.Decisions.{each_event}
 
@@ -78,3 +81,24 @@ still_told L M x (replies.Tally tally) h = tt
 -- one reply for each event
 pub step_count : (L : Ledger) (moment : ℕ) (caller : List ℕ) (unit : List Event) (M : Ledger) (told : List Reply) → unit_step moment caller unit L ≡ accepted M told → length told ≡ 1
 step_count L moment caller unit M told e = each_event (λ m t. length t ≡ 1) L moment (λ name h. refl) (λ m queue found h. refl) caller unit M told e
+
+-- the replies of events tell no tally
+pub step_balanced : (L : Ledger) (moment : ℕ) (caller : List ℕ) (unit : List Event) (M : Ledger) (told : List Reply) → unit_step moment caller unit L ≡ accepted M told → All TellsBalanced told
+step_balanced L moment caller unit M told e =
+    each_event (λ m t. All TellsBalanced t) L moment
+    (λ name h. All-cons TellsBalanced (provisioned moment name L).reply [] tt (All-nil TellsBalanced))
+    (λ m queue found h. All-cons TellsBalanced (published moment m queue L).reply [] tt (All-nil TellsBalanced))
+    caller unit M told e
+
+decided_not_idle : (refusal : Option Refusal) (done : Stepped) (told : List Reply) → decided refusal done ≡ idle told → ⊥
+decided_not_idle (Some refusal) done told e = cc
+decided_not_idle None done told e = cc
+
+publish_not_idle : (L : Ledger) (moment : ℕ) (m : Message) (found : Option Endpoint) (told : List Reply) → publish_to moment m L found ≡ idle told → ⊥
+publish_not_idle L moment m None told e = cc
+publish_not_idle L moment m (Some queue) told e = decided_not_idle (first_refusal (publish_checks L m queue)) (published moment m queue L) told e
+
+-- no event is idle yet
+pub never_idle : (L : Ledger) (moment : ℕ) (caller : List ℕ) (event : Event) (told : List Reply) → unit_step moment caller (event ∷ []) L ≡ idle told → ⊥
+never_idle L moment caller (events.Provision name) told e = decided_not_idle (first_refusal (provision_checks L name)) (provisioned moment name L) told e
+never_idle L moment caller (events.Publish m) told e = publish_not_idle L moment m (named (dest_bytes m.dest) L.endpoints) told e

@@ -15,6 +15,7 @@ use Rattle.sp_event.specs.declared.request.Query.{Query}
 use Rattle.sp_event.specs.declared.request.Query.TheVariants as queries
 use Rattle.sp_ledger.specs.Answer.{Answer, gave, unanswered, answer, tally_in, tally_named}
 use Rattle.sp_ledger.specs.Balance.{IsBalanced, TellsBalanced}
+use Rattle.sp_ledger.specs.Extends.{TellsMade}
 use Rattle.sp_ledger.specs.Ledger.{Ledger, Endpoint, named}
 
 -- a copy is closed where it has a closing
@@ -68,3 +69,12 @@ named_balanced L name (Some found) r e = subst TellsBalanced (let same : replies
 pub answer_balanced : (moment : ℕ) (caller : List ℕ) (q : Query) (L : Ledger) (r : Reply) → answer moment caller q L ≡ gave r → TellsBalanced r
 answer_balanced moment caller (queries.Tally None) L r e = subst TellsBalanced (let same : replies.Tally (tally_in L.copies None) ≡ r = cc in same) (tally_balanced L.copies None)
 answer_balanced moment caller (queries.Tally (Some name)) L r e = named_balanced L name (named name L.endpoints) r e
+
+named_tells : (L M : Ledger) (name : List ℕ) (found : Option Endpoint) (r : Reply) → tally_named L name found ≡ gave r → TellsMade M r
+named_tells L M name None r e = absurd (cc)
+named_tells L M name (Some found) r e = subst (TellsMade M) (let same : replies.Tally (tally_in L.copies (Some found.number)) ≡ r = cc in same) tt
+
+-- the answers to queries tell of no copies that a publish made
+pub answer_tells : (moment : ℕ) (caller : List ℕ) (q : Query) (L M : Ledger) (r : Reply) → answer moment caller q L ≡ gave r → TellsMade M r
+answer_tells moment caller (queries.Tally None) L M r e = subst (TellsMade M) (let same : replies.Tally (tally_in L.copies None) ≡ r = cc in same) tt
+answer_tells moment caller (queries.Tally (Some name)) L M r e = named_tells L M name (named name L.endpoints) r e

@@ -1,5 +1,10 @@
+pub mod Acts
 pub mod Cut
 pub mod Entry
+pub mod Fates
 pub mod Head
 pub mod Numeral
 pub mod Parse
+pub mod Reading
+pub mod Run
+pub mod Runs

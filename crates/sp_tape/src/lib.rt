@@ -5,3 +5,7 @@ pub mod entry;
 mod head;
 mod numeral;
 pub mod parse;
+pub mod reader;
+pub mod run_tape;
+pub mod status;
+pub mod turn;
