@@ -1,0 +1,4 @@
+pub mod Cuts
+pub mod Entries
+pub mod Heads
+pub mod Numerals
