@@ -1,16 +1,14 @@
 -- Entries as text: the front of a tape reads in one way.
-use Rattle.std.proofs.Common.{◌≡◌, ◌≢◌, ◌≤◌, ◌<◌, ◌==◌, ℕ, suc, ◌+◌, Bool, true, false, List, [], ◌∷◌, ◌++◌, length, take, drop, get_or, Option, Some, None, refl, sym, ap, subst, ◌∙◌, arith}
-use Rattle.std.specs.List.{list_any}
-use Rattle.std.proofs.lemmas.Bool.{eq-eqb, cases_lt}
+use Rattle.std.proofs.Common.{◌≡◌, ◌≤◌, ◌<◌, ◌==◌, ℕ, ◌+◌, false, List, [], ◌∷◌, ◌++◌, length, take, drop, get_or, Some, None, refl, sym, ap, subst, ◌∙◌, arith}
+use Rattle.std.proofs.lemmas.Bool.{eq-eqb}
 use Rattle.std.proofs.lemmas.List.{append_assoc, length-append, length-take-le, take_at, drop_at, get_or_at, get_or_append_left, take-append-drop, drop_more}
 use Rattle.std.proofs.lemmas.List.Folds.{list_any_at}
 use Rattle.std.proofs.lemmas.Option.{some_pair_parts, same_Some}
 use Rattle.sp_tape.specs.declared.entry.Entry.{Entry}
 use Rattle.sp_tape.specs.declared.entry.Kind.{Kind}
 use Rattle.sp_tape.specs.declared.head.Head.{Head}
-use Rattle.sp_tape.specs.declared.parse.Found.{Found}
 use Rattle.sp_tape.specs.Cut.{cut}
-use Rattle.sp_tape.specs.Entry.{head_text, entry_text, IsEntry, HasNoEntry}
+use Rattle.sp_tape.specs.Entry.{entry_text, IsEntry, HasNoEntry}
 use Rattle.sp_tape.specs.Head.{head_of, longest_body}
 use Rattle.sp_tape.specs.Parse.{IsFound}
 use Rattle.sp_tape.proofs.Cuts.{has_byte, is_cut, cut-found, cut-more}
@@ -51,7 +49,7 @@ front bytes line rest e tail at is begins =
       head = ap head_of parts.0 ∙ head_of-text (head_for e) (in_range e is);
     }
 
-abbrev entry_made : List ℕ → Kind → ℕ → List ℕ → Entry
+abbrev pub entry_made : List ℕ → Kind → ℕ → List ℕ → Entry
 entry_made caller kind moment body = record { caller = caller; kind = kind; moment = moment; body = body }
 
 -- bytes of one length before a byte are the same where the whole is
@@ -70,11 +68,13 @@ same_entry e f xs ys is_e is_f both =
     let kind : e.kind ≡ f.kind = ap (λ (h : Head). h.kind) heads in
     let moment : e.moment ≡ f.moment = ap (λ (h : Head). h.moment) heads in
     let len : length e.body ≡ length f.body = ap (λ (h : Head). h.len) heads in
-    let rest = same_front e.body f.body xs ys len at.rest_is in
-    (ap (λ (c : List ℕ). entry_made c e.kind e.moment e.body) caller
-    ∙ (ap (λ (k : Kind). entry_made f.caller k e.moment e.body) kind
-    ∙ (ap (λ (m : ℕ). entry_made f.caller f.kind m e.body) moment
-    ∙ ap (λ (b : List ℕ). entry_made f.caller f.kind f.moment b) rest.0)), rest.1)
+    let rest = same_front e.body f.body xs ys len at.rest_is in (
+      ap (λ (c : List ℕ). entry_made c e.kind e.moment e.body) caller
+          ∙ (ap (λ (k : Kind). entry_made f.caller k e.moment e.body) kind
+          ∙ (ap (λ (m : ℕ). entry_made f.caller f.kind m e.body) moment
+          ∙ ap (λ (b : List ℕ). entry_made f.caller f.kind f.moment b) rest.0)),
+      rest.1,
+    )
 
 -- what is known of an entry where the line says a head
 record IsBy (line rest : List ℕ) (h : Head) (e : Entry) (tail : List ℕ) : Type 0 where

@@ -1,5 +1,5 @@
 -- The first line of an entry, as text and as read.
-use Rattle.std.proofs.Common.{◌≡◌, ◌≤◌, ◌<◌, ◌==◌, ◌^◌, ◌+◌, ℕ, Bool, true, false, ◌&&◌, cond, inl, inr, ◌⊎◌, List, [], ◌∷◌, ◌++◌, length, Option, Some, None, refl, sym, ap, subst, ◌∙◌, arith}
+use Rattle.std.proofs.Common.{◌≡◌, ◌≤◌, ◌==◌, ℕ, Bool, true, false, ◌&&◌, cond, inl, inr, ◌⊎◌, List, [], ◌∷◌, ◌++◌, length, Option, Some, None, refl, ap, subst, ◌∙◌, arith}
 use Rattle.std.specs.Prelude.{nat_le, nat_lt, decimal, codes, bytes_eq, option_and_then, option_map}
 use Rattle.std.specs.List.{list_all}
 use Rattle.std.proofs.lemmas.Bool.{leb-true, le-leb, le-ltb, ltb-false, eqb-true, and_parts, and_from, cond-true, cond-false}
@@ -49,17 +49,17 @@ either_some false x y o e = inr e
 
 kind_is : (word : List ℕ) (k : Kind) → kind_named word ≡ Some k → word ≡ kind_word k
 kind_is word k e = elim (either_some (bytes_eq word (codes "flow")) Flow k _ e) [
-    inl (t, s) ↦ subst (λ (x : Kind). word ≡ kind_word x) s ((bytes_eq-Decides word (codes "flow")).0 t)
-    | inr e1 ↦ elim (either_some (bytes_eq word (codes "http")) Http k _ e1) [
-        inl (t, s) ↦ subst (λ (x : Kind). word ≡ kind_word x) s ((bytes_eq-Decides word (codes "http")).0 t)
-        | inr e2 ↦ elim (either_some (bytes_eq word (codes "rdp")) Rdp k _ e2) [
-            inl (t, s) ↦ subst (λ (x : Kind). word ≡ kind_word x) s ((bytes_eq-Decides word (codes "rdp")).0 t)
-            | inr e3 ↦ elim (either_some (bytes_eq word (codes "restart")) Restart k _ e3) [
-                inl (t, s) ↦ subst (λ (x : Kind). word ≡ kind_word x) s ((bytes_eq-Decides word (codes "restart")).0 t)
-                | inr e4 ↦ absurd (cc)
-            ]
-        ]
+  | inl (t, s) ↦ subst (λ (x : Kind). word ≡ kind_word x) s ((bytes_eq-Decides word (codes "flow")).0 t)
+  | inr e1 ↦ elim (either_some (bytes_eq word (codes "http")) Http k _ e1) [
+    | inl (t, s) ↦ subst (λ (x : Kind). word ≡ kind_word x) s ((bytes_eq-Decides word (codes "http")).0 t)
+    | inr e2 ↦ elim (either_some (bytes_eq word (codes "rdp")) Rdp k _ e2) [
+      | inl (t, s) ↦ subst (λ (x : Kind). word ≡ kind_word x) s ((bytes_eq-Decides word (codes "rdp")).0 t)
+      | inr e3 ↦ elim (either_some (bytes_eq word (codes "restart")) Restart k _ e3) [
+        | inl (t, s) ↦ subst (λ (x : Kind). word ≡ kind_word x) s ((bytes_eq-Decides word (codes "restart")).0 t)
+        | inr e4 ↦ absurd (cc)
+      ]
     ]
+  ]
 ]
 
 kind_named-word : (k : Kind) → kind_named (kind_word k) ≡ Some k
@@ -101,22 +101,22 @@ fields caller kind moment len h e =
     option_and_then_some (from_kind c moment len) (kind_named kind) h e1 (λ k ek e2.
     option_and_then_some (from_moment c k len) (moment_from moment) h e2 (λ m em e3.
     option_map_some (made c k m) (length_from k len) h e3 (λ n en eh.
-        let name = cond_some (is_name caller && is_caller caller) caller c ec in
-        let both = and_parts (is_name caller) (is_caller caller) name.0 in
-        let at_moment = moment_is moment m em in
-        let at_len = length_is k len n en in
-        subst (λ (x : Head). IsFields caller kind moment len x) eh (record {
-          caller_is = name.1;
-          kind_is = kind_is kind k ek;
-          moment_is = at_moment.0;
-          len_is = at_len.0;
-          range = record {
-            name = subst (λ (x : List ℕ). is_name x ≡ true) name.1 both.0;
-            short = subst (λ (x : List ℕ). is_caller x ≡ true) name.1 both.1;
-            moment = at_moment.1;
-            body = at_len.1;
-          };
-        })))))
+    let name = cond_some (is_name caller && is_caller caller) caller c ec in
+    let both = and_parts (is_name caller) (is_caller caller) name.0 in
+    let at_moment = moment_is moment m em in
+    let at_len = length_is k len n en in
+    subst (λ (x : Head). IsFields caller kind moment len x) eh (record {
+      caller_is = name.1;
+      kind_is = kind_is kind k ek;
+      moment_is = at_moment.0;
+      len_is = at_len.0;
+      range = record {
+        name = subst (λ (x : List ℕ). is_name x ≡ true) name.1 both.0;
+        short = subst (λ (x : List ℕ). is_caller x ≡ true) name.1 both.1;
+        moment = at_moment.1;
+        body = at_len.1;
+      };
+    })))))
 
 after_at_is : (line rest : List ℕ) → after_at line ≡ Some rest → line ≡ 64 ∷ rest
 after_at_is [] rest e = absurd (cc)
@@ -145,12 +145,12 @@ head_is line h e =
     option_and_then_some of_caller (cut 32 rest) h e1 (λ p ep e2.
     option_and_then_some (of_kind p.0) (cut 32 p.1) h e2 (λ q eq e3.
     option_and_then_some (of_moment p.0 q.0) (cut 32 q.1) h e3 (λ r er e4.
-        let f = fields p.0 q.0 r.0 r.1 h e4 in
-        let first = (is_cut 32 rest p.0 p.1 ep).joined in
-        let second = (is_cut 32 p.1 q.0 q.1 eq).joined in
-        let third = (is_cut 32 q.1 r.0 r.1 er).joined in
-        let sign = after_at_is line rest ea in
-        (cc (sign, first, second, third, f.caller_is, f.kind_is, f.moment_is, f.len_is), f.range)))))
+    let f = fields p.0 q.0 r.0 r.1 h e4 in
+    let first = (is_cut 32 rest p.0 p.1 ep).joined in
+    let second = (is_cut 32 p.1 q.0 q.1 eq).joined in
+    let third = (is_cut 32 q.1 r.0 r.1 er).joined in
+    let sign = after_at_is line rest ea in
+    (cc (sign, first, second, third, f.caller_is, f.kind_is, f.moment_is, f.len_is), f.range)))))
 
 name-clear : (byte : ℕ) (caller : List ℕ) → is_name_byte byte ≡ false → is_name caller ≡ true → has_byte byte caller ≡ false
 name-clear byte caller fails h = apart is_name_byte byte fails caller (and_parts (nat_le 1 (length caller) && nat_le (length caller) 200) (list_all is_name_byte caller) h).1

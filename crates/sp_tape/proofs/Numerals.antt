@@ -1,8 +1,8 @@
 -- Texts of digits, and the numbers that they write.
-use Rattle.std.proofs.Common.{◌≡◌, ◌≤◌, ◌<◌, ◌==◌, ◌^◌, ℕ, Bool, true, false, ◌&&◌, ◌||◌, not, cond, inl, inr, List, [], ◌∷◌, length, Option, Some, None, refl, sym, ap, subst, ◌∙◌, arith, rules, IsUtf8}
+use Rattle.std.proofs.Common.{◌≡◌, ◌≤◌, ◌<◌, ◌==◌, ◌^◌, ℕ, Bool, true, false, ◌&&◌, ◌||◌, not, inl, inr, List, [], ◌∷◌, length, Some, None, refl, sym, ap, subst, ◌∙◌, arith, rules, IsUtf8}
 use Rattle.std.specs.Prelude.{nat_le, decimal, slice_index}
 use Rattle.std.specs.Str.{all_ascii_digits, IsAscii}
-use Rattle.std.proofs.lemmas.Bool.{leb-true, le-leb, eqb-true, eq-eqb, ne_eqb, and_parts, and_from, or_cases, or_left, or_right, not-true, not_from_false, cases_lt, cond-true}
+use Rattle.std.proofs.lemmas.Bool.{leb-true, le-leb, eqb-true, eq-eqb, and_parts, and_from, or_cases, not-true, cases_lt, cond-true}
 use Rattle.std.proofs.lemmas.Option.{cond_some}
 use Rattle.std.proofs.lemmas.Fmt.{IsAscii-decimal, digits_decimal, digits_value-decimal, decimal-digits_value, decimal_nonempty, length-decimal-le, first_decimal, decimal_digit}
 use Rattle.std.proofs.lemmas.Str.{IsUtf8-from_ascii}
@@ -65,8 +65,8 @@ decimal_plain n small false false h k = refl
 decimal_plain n small false true h k =
     let first : slice_index (decimal n) 0 ≡ 48 = eqb-true (slice_index (decimal n) 0) 48 k in
     elim (cases_lt 0 n) [
-        inl above ↦ let more = first_decimal n above (omega arith) in absurd (omega arith)
-        | inr zero ↦ cc (h, eq-eqb (length (decimal n)) 1 (ap (λ (l : List ℕ). length l) (decimal_digit n (omega arith))))
+      | inl above ↦ let more = first_decimal n above (omega arith) in absurd (omega arith)
+      | inr zero ↦ cc (h, eq-eqb (length (decimal n)) 1 (ap (λ (l : List ℕ). length l) (decimal_digit n (omega arith))))
     ]
 
 pub decimal-numeral : (n : ℕ) → n < 10 ^ 16 → is_numeral (decimal n) ≡ true

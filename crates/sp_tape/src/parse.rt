@@ -43,7 +43,7 @@ pub fn parse(alloc: Global, bytes: &[u8], room: u64) -> Result<Parsed, AllocErro
     }
 }
 
-// A first line may still end within the longest, and not behind it.
+// With no line feed among more bytes than the longest first line has, no entry begins here.
 fn without_line(bytes: &[u8]) -> Parsed
     requires { cut 10 bytes.now ≡ None }
     ensures { (room : ℕ) → Parses room bytes.now result }

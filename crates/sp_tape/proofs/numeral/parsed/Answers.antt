@@ -1,6 +1,5 @@
-use Rattle.std.proofs.Common.{◌<◌, ◌^◌, arith}
+use Rattle.std.proofs.Common.{arith}
 use Rattle.std.proofs.lemmas.Str.Parse.{parse_gives}
-use Rattle.sp_tape.specs.Numeral.{numeral_value}
 use Rattle.sp_tape.proofs.Numerals.{own, writes, below}
 use Rattle.sp_tape.proofs.numeral.parsed.Goals as goal
 
