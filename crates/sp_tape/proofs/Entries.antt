@@ -1,5 +1,5 @@
 -- Entries as text: the front of a tape reads in one way.
-use Rattle.std.proofs.Common.{◌≡◌, ◌≤◌, ◌<◌, ◌==◌, ℕ, ◌+◌, false, List, [], ◌∷◌, ◌++◌, length, take, drop, get_or, Some, None, refl, sym, ap, subst, ◌∙◌, arith}
+use Rattle.std.proofs.Common.{◌≡◌, ◌≢◌, ◌≤◌, ◌<◌, ◌==◌, ℕ, ◌+◌, false, List, [], ◌∷◌, ◌++◌, length, take, drop, get_or, Some, None, refl, sym, ap, subst, ◌∙◌, arith}
 use Rattle.std.proofs.lemmas.Bool.{eq-eqb}
 use Rattle.std.proofs.lemmas.List.{append_assoc, length-append, length-take-le, take_at, drop_at, get_or_at, get_or_append_left, take-append-drop, drop_more}
 use Rattle.std.proofs.lemmas.List.Folds.{list_any_at}
@@ -101,6 +101,12 @@ line_bound line h says =
     let low : h.len ≤ longest_body h.kind = is.1.body in
     let same : length line ≡ length (text_of h) = ap (λ (l : List ℕ). length l) is.0 in
     (omega arith, omega arith)
+
+pub not_empty : (bytes : List ℕ) (p : List ℕ × List ℕ) → cut 10 bytes ≡ Some p → bytes ≢ []
+not_empty bytes p at none = cc (ap (cut 10) none, at)
+
+pub long_not_empty : (bytes : List ℕ) → 98 < length bytes → bytes ≢ []
+long_not_empty bytes long none = let no_length : length bytes ≡ 0 = ap (λ (l : List ℕ). length l) none in omega arith
 
 pub short_without_line : (room : ℕ) (bytes : List ℕ) → cut 10 bytes ≡ None → HasNoEntry room bytes
 short_without_line room bytes at e is fits (tail, begins) =

@@ -1,5 +1,5 @@
 -- What the front of a tape is found to be.
-use Rattle.std.specs.Prelude.{◌≡◌, ◌≤◌, ℕ, List, ◌++◌, length, drop}
+use Rattle.std.specs.Prelude.{◌≡◌, ◌≢◌, ◌≤◌, ℕ, List, [], ◌++◌, length, drop}
 use Rattle.sp_tape.specs.declared.parse.Found.{Found}
 use Rattle.sp_tape.specs.declared.parse.Parsed.{Parsed}
 use Rattle.sp_tape.specs.declared.parse.Parsed.TheVariants as parsed
@@ -17,4 +17,4 @@ pub record IsFound (room : ℕ) (bytes : List ℕ) (found : Found) : Type 0 wher
 abbrev pub Parses : ℕ → List ℕ → Parsed → Type 0
 Parses room bytes (parsed.Found found) = IsFound room bytes found
 Parses room bytes parsed.Short = HasNoEntry room bytes × (length bytes ≤ 8388800)
-Parses room bytes parsed.Bad = (more : List ℕ) → HasNoEntry room (bytes ++ more)
+Parses room bytes parsed.Bad = (bytes ≢ []) × ((more : List ℕ) → HasNoEntry room (bytes ++ more))
