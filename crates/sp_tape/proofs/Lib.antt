@@ -1,6 +1,10 @@
 pub mod ActsLemmas
+pub mod Cuts
+pub mod Entries
 pub mod GivesLemmas
+pub mod Heads
 pub mod Holds
 pub mod Known
+pub mod Numerals
 pub mod Pieces
 pub mod SoFar

@@ -51,7 +51,7 @@ fn after_at(line: &[u8]) -> Option<&[u8]>
 }
 
 /// Both sides of the first such byte.
-#[tactic(auto, using(std::proofs::lemmas::List::take_rest))]
+#[tactic(auto, using(std::proofs::lemmas::List::take_rest, crate::proofs::Cuts::cut_by_position))]
 pub fn cut(bytes: &[u8], byte: u8) -> Option<(&[u8], &[u8])>
     ensures { option_map (λ p. (p.0.now, p.1.now)) result ≡ cut byte bytes.now }
 {
