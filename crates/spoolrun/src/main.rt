@@ -1,0 +1,28 @@
+//! Runs a tape of requests from standard input, and writes the answers to standard output.
+#![tactic(auto)]
+
+use sp_base::real_io::{ReaderSource, WriterSink};
+use sp_tape::run_tape::run;
+use sp_tape::status::Status;
+use std::process::ExitCode;
+use std::{env, io};
+
+fn main(rt: HostRuntime) -> io::Result<ExitCode> {
+    let mut words = Vec::new(rt.alloc());
+    for word in env::args(&rt)?.skip(1) {
+        words.push(word)?;
+    }
+    let mut source = ReaderSource::new(rt.reader());
+    let mut sink = WriterSink::new(io::writer(&rt));
+    let status = run(words.as_slice(), &mut source, &mut sink, rt.alloc());
+    tell(&rt, status)?;
+    Ok(ExitCode::from(status.number()))
+}
+
+// Prints the status's line on standard error.
+fn tell(rt: &(impl Eprint + AllocGlobal), status: Status) -> io::Result<()> {
+    match status.line(rt.alloc())? {
+        Some(line) => rt.eprintln(line.as_str()),
+        None => Ok(()),
+    }
+}
