@@ -1,0 +1,3 @@
+mod Acts
+mod CutOff
+mod Grown

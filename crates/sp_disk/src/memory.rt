@@ -1,0 +1,163 @@
+//! A disk in memory that can crash, fail and stop.
+ghost use Rattle.std.specs.Prelude.{◌≡◌, ◌≤◌, ◌⊎◌, ◌++◌, [], ◌∷◌, true, false, OnOk, OnErr};
+ghost use Rattle.sp_base.specs.Causes.{HasCause, Rose};
+ghost use Rattle.sp_disk.specs.declared.disk.File.{File};
+ghost use Rattle.sp_disk.specs.Contents.{held};
+ghost use Rattle.sp_disk.specs.Calls.{after_all};
+ghost use Rattle.sp_disk.specs.Acted.{Acted};
+ghost use Rattle.sp_disk.specs.Moments.{Elapses};
+
+use crate::call::{Call, Taken};
+use crate::contents::{Contents, fill};
+use crate::disk::{Disk, File};
+use sp_base::bytes::Bytes;
+use sp_base::failure::Failed;
+use std::alloc::Global;
+
+/// Which calls are to fail. Calls are counted from 1.
+#[derive(Debug, Drop)]
+struct Plan {
+    made: u64,
+    failing: Vec<u64>,
+    stop: Option<u64>,
+}
+
+impl Plan {
+    // Counts a call, and says whether it is to fail.
+    fn next_fails(&mut self) -> bool {
+        self.made = self.made.saturating_add(1);
+        self.stop.is_some_and(|stop| stop <= self.made) || self.failing.contains(&self.made)
+    }
+}
+
+/// A disk in memory that keeps a record of all calls. It tells everything and is honest: a crash may
+/// leave whatever the calls since a file's last sync allow.
+///
+/// A call whose growth is refused fails too, and then does nothing and isn't recorded.
+#[derive(Debug, Drop)]
+pub struct MemoryDisk {
+    alloc: Global,
+    // The files before the first call, all of them synced.
+    first: Contents,
+    calls: Vec<Taken>,
+    // The files as a read gives them now.
+    contents: Contents,
+    plan: Plan,
+    faults: u64,
+    ghost replayed: { (file : File) → held contents file ≡ after_all file calls.items (held first file) },
+}
+
+impl MemoryDisk {
+    /// A disk whose files are empty, and none of whose calls is to fail.
+    pub fn new(alloc: Global) -> MemoryDisk
+        ensures { (file : _) → ⟦<MemoryDisk as Disk>⟧.content result file ≡ [] }
+    {
+        MemoryDisk {
+            alloc,
+            first: Contents::new(alloc),
+            calls: Vec::new(alloc),
+            contents: Contents::new(alloc),
+            plan: Plan {
+                made: 0,
+                failing: Vec::new(alloc),
+                stop: None,
+            },
+            faults: 0,
+        }
+    }
+
+    /// The bytes of a file as a read gives them.
+    pub fn bytes(&self, file: File) -> &[u8]
+        ensures { result.now ≡ ⟦<MemoryDisk as Disk>⟧.content self.now file }
+    {
+        self.contents.bytes(file)
+    }
+
+    // Counts a fault.
+    fn fault(&mut self) -> Failed
+        ensures rose { Rose self.old.faults self.new.faults }
+        ensures later { self.old.faults ≤ self.new.faults }
+        ensures first { self.new.first ≡ self.old.first }
+        ensures calls { self.new.calls ≡ self.old.calls }
+        ensures contents { self.new.contents ≡ self.old.contents }
+    {
+        self.faults = self.faults.saturating_add(1);
+        Failed
+    }
+
+    // Does the next call and records it, or, where a growth is refused, neither.
+    fn act(&mut self, file: File, call: Call) -> Result<(), Failed>
+        ensures acted { Acted file call result (⟦<MemoryDisk as Disk>⟧.content self.old) (⟦<MemoryDisk as Disk>⟧.content self.new)
+            (⟦<MemoryDisk as Disk>⟧.may_leave self.old) (⟦<MemoryDisk as Disk>⟧.may_leave self.new) }
+        ensures time { Elapses (⟦<MemoryDisk as Disk>⟧.moment self.old) (⟦<MemoryDisk as Disk>⟧.moment self.new)
+            (⟦<MemoryDisk as Disk>⟧.left_since self.old) (⟦<MemoryDisk as Disk>⟧.left_since self.new) (⟦<MemoryDisk as Disk>⟧.may_leave self.new) }
+        ensures cause { HasCause self.old.faults self.new.faults result }
+    {
+        let failed = self.plan.next_fails();
+        let taken = Taken { file, call, failed };
+        if self.calls.reserve(1).is_err() {
+            return Err(self.fault());
+        }
+        let Ok(()) = self.contents.take(&taken) else {
+            return Err(self.fault());
+        };
+        match self.calls.push(taken) {
+            Ok(()) => {}
+            Err(_) => unreachable!(),
+        }
+        if failed { Err(self.fault()) } else { Ok(()) }
+    }
+}
+
+impl Disk for MemoryDisk {
+    ghost use Rattle.std.specs.Prelude.{true, length};
+    ghost use Rattle.sp_disk.specs.Contents.{held};
+    ghost use Rattle.sp_disk.specs.Calls.{MayLeave, MightHaveLeft};
+    ghost use Rattle.sp_disk.specs.Images.{reads_left, left_now, left_only_now, left_earlier};
+
+    ghost tells = { λ _. record { content = true; images = true; honest = true } };
+
+    ghost content = { λ disk. held disk.contents };
+
+    ghost may_leave = { λ disk. MayLeave (held disk.first) disk.calls.items };
+
+    ghost moment = { λ disk. length disk.calls.items };
+
+    ghost left_since = { λ disk. MightHaveLeft (held disk.first) disk.calls.items };
+
+    ghost faults = { λ disk. disk.faults };
+
+    ghost reads = { λ disk _ _. reads_left (held disk.first) (held disk.contents) disk.calls.items disk.replayed };
+
+    ghost counts_now = { λ disk. left_now (held disk.first) disk.calls.items };
+
+    ghost only_now = { λ disk. left_only_now (held disk.first) disk.calls.items };
+
+    ghost earlier = { λ disk. left_earlier (held disk.first) disk.calls.items };
+
+    fn len(&mut self, file: File) -> Result<u64, Failed> {
+        self.act(file, Call::Len)?;
+        Ok(self.contents.bytes(file).len() as u64)
+    }
+
+    fn read(&mut self, file: File, at: u64, into: &mut [u8]) -> Result<usize, Failed> {
+        let count = into.len();
+        self.act(file, Call::Read { at, count })?;
+        Ok(fill(self.contents.bytes(file), at as usize, into))
+    }
+
+    fn write(&mut self, file: File, at: u64, bytes: &[u8]) -> Result<(), Failed> {
+        match Bytes::copy_of(self.alloc, bytes) {
+            Ok(bytes) => self.act(file, Call::Write { at, bytes }),
+            Err(_) => Err(self.fault()),
+        }
+    }
+
+    fn cut(&mut self, file: File, len: u64) -> Result<(), Failed> {
+        self.act(file, Call::Cut { len })
+    }
+
+    fn sync(&mut self, file: File) -> Result<(), Failed> {
+        self.act(file, Call::Sync)
+    }
+}
