@@ -1,7 +1,7 @@
 -- A call of a disk in memory does what it is said to do.
-use Rattle.std.proofs.Common.{◌≡◌, ◌≢◌, inl, inr, ◌≤◌, ℕ, Bool, true, false, cond, List, [], ◌∷◌, ◌++◌, length, Result, Ok, Err, OnOk, OnErr, IsOk, IsErr, refl, sym, ap, ◌∙◌, subst}
+use Rattle.std.proofs.Common.{◌≡◌, ℕ, Bool, false, cond, List, [], ◌∷◌, ◌++◌, length, Result, Ok, Err, OnOk, OnErr, IsOk, IsErr, refl, sym, ap, ◌∙◌, subst}
 use Rattle.sp_base.specs.declared.failure.Failed.{Failed}
-use Rattle.sp_disk.specs.Disk.{Folder, SameElsewhere, Follows, AddsNone, HoldsOnly}
+use Rattle.sp_disk.specs.Disk.{Folder, SameElsewhere, AddsNone, HoldsOnly}
 use Rattle.sp_disk.specs.Moments.{Elapses}
 use Rattle.sp_disk.specs.Contents.{held}
 use Rattle.sp_disk.specs.declared.contents.Contents.{Contents}
@@ -10,7 +10,7 @@ use Rattle.sp_disk.specs.declared.disk.File.{File}
 use Rattle.sp_disk.specs.declared.call.Call.{Call}
 use Rattle.sp_disk.specs.declared.call.Call.TheVariants.{Sync}
 use Rattle.sp_disk.specs.declared.call.Taken.{Taken}
-use Rattle.sp_disk.specs.Calls.{same_file, after_call, after_one, after_all, IsCutOff, MayLeave, MightHaveLeft}
+use Rattle.sp_disk.specs.Calls.{after_call, after_one, after_all, IsCutOff, MayLeave, MightHaveLeft}
 use Rattle.sp_disk.proofs.CutOff.{cut_off_same, cut_off_done}
 use Rattle.sp_disk.proofs.Grown.{same_self, not_same, grown_images, grown_kept, grown_durable, grown_none, grown_time, same_time, after_push}
 

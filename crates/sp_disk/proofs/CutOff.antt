@@ -1,5 +1,5 @@
 -- A call that is done, or does nothing, is one that may be cut off.
-use Rattle.std.proofs.Common.{◌≡◌, ℕ, ◌+◌, ◌-◌, ◌/◌, ◌≤◌, min, max, Bool, true, false, List, [], ◌∷◌, ◌++◌, length, take, drop, refl, sym, ap, ◌∙◌, subst, inl, inr, ⊎_elim, ◌⊎◌, ◌≢◌, arith, drop-drop, length-take}
+use Rattle.std.proofs.Common.{◌≡◌, ℕ, ◌+◌, ◌-◌, ◌≤◌, Bool, true, false, List, length, take, drop, refl, sym, ap, ◌∙◌, subst, inl, inr, ⊎_elim, ◌≢◌, arith, drop-drop}
 use Rattle.std.proofs.lemmas.Grind.{common_steps}
 use Rattle.sp_disk.specs.Disk.{Torn, Shortened, written}
 use Rattle.sp_disk.specs.declared.call.Call.{Call}
@@ -36,6 +36,9 @@ torn_more at less more old new le torn = record {
   no_longer = omega (arith, torn.no_longer);
 }
 
+pub first_half_le : (bytes : List ℕ) → length (first_half bytes) ≤ length bytes
+first_half_le bytes = grind (arith, common_steps)
+
 pub shortened_same : (len : ℕ) (file : List ℕ) → Shortened len file file
 shortened_same len file = record { no_shorter = omega arith; front = grind (arith, common_steps) }
 
@@ -55,7 +58,7 @@ pub cut_off_done : (call : Call) (failed : Bool) (file : List ℕ) → IsCutOff 
 cut_off_done Len failed file = refl
 cut_off_done (Read at count) failed file = refl
 cut_off_done (Write at bytes) true file =
-    torn_more at (length (first_half bytes)) (length bytes) file (written file at (first_half bytes)) (grind (arith, common_steps)) (torn_written at (first_half bytes) file)
+    torn_more at (length (first_half bytes)) (length bytes) file (written file at (first_half bytes)) (first_half_le bytes) (torn_written at (first_half bytes) file)
 cut_off_done (Write at bytes) false file = torn_written at bytes file
 cut_off_done (Cut len) true file = shortened_same len file
 cut_off_done (Cut len) false file = shortened_cut len file

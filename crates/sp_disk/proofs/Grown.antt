@@ -1,15 +1,15 @@
 -- What one more call makes of a file, and of the images.
-use Rattle.std.proofs.Common.{◌≡◌, ◌≢◌, ◌⊎◌, inl, inr, ⊎_elim, ℕ, ◌+◌, ◌<◌, ◌≤◌, Bool, true, false, List, [], ◌∷◌, ◌++◌, length, take, MatchBool, refl, sym, ap, ◌∙◌, subst, arith, length-append}
+use Rattle.std.proofs.Common.{◌≡◌, ◌≢◌, ◌⊎◌, inl, inr, ⊎_elim, ℕ, ◌+◌, ◌<◌, ◌≤◌, Bool, true, false, List, [], ◌∷◌, ◌++◌, length, MatchBool, refl, sym, subst, arith, length-append}
 use Rattle.std.proofs.lemmas.Bool.{cases_lt}
 use Rattle.std.proofs.lemmas.List.{take-append-le, take_all}
-use Rattle.sp_disk.specs.Disk.{Folder, SameElsewhere, Follows, AddsNone, HoldsOnly}
+use Rattle.sp_disk.specs.Disk.{Folder, Follows, AddsNone}
 use Rattle.sp_disk.specs.Moments.{Elapses}
 use Rattle.sp_disk.specs.declared.disk.File.{File}
 use Rattle.sp_disk.specs.declared.disk.File.TheVariants.{Journal, Image}
 use Rattle.sp_disk.specs.declared.call.Call.{Call}
-use Rattle.sp_disk.specs.declared.call.Call.TheVariants.{Len, Read, Write, Cut, Sync}
+use Rattle.sp_disk.specs.declared.call.Call.TheVariants.{Sync}
 use Rattle.sp_disk.specs.declared.call.Taken.{Taken}
-use Rattle.sp_disk.specs.Calls.{same_file, after_call, after_one, after_all, IsCutOff, Leaves, LeavesOne, IsImage, MayLeave, MightHaveLeft}
+use Rattle.sp_disk.specs.Calls.{same_file, after_one, after_all, IsCutOff, Leaves, LeavesOne, IsImage, MayLeave, MightHaveLeft}
 use Rattle.sp_disk.specs.Images.{reads_image}
 use Rattle.sp_disk.proofs.CutOff.{cut_off_of, leaves_same}
 
@@ -43,7 +43,7 @@ last file (first ∷ calls) taken reads old image steps =
     let rest = last file calls taken (after_one file first reads) steps.0 image steps.2 in
     record { from = rest.from; is_image = (steps.0, steps.1, rest.is_image); step = rest.step }
 
-one_more : (file : File) (calls : List Taken) (taken : Taken) (reads old from image : List ℕ) → IsImage file calls reads old from → LeavesOne file taken (after_all file calls reads) from image → IsImage file (calls ++ taken ∷ []) reads old image
+pub one_more : (file : File) (calls : List Taken) (taken : Taken) (reads old from image : List ℕ) → IsImage file calls reads old from → LeavesOne file taken (after_all file calls reads) from image → IsImage file (calls ++ taken ∷ []) reads old image
 one_more file [] taken reads old from image is step = (image, subst (λ (l : List ℕ). LeavesOne file taken reads l image) is step, refl)
 one_more file (first ∷ calls) taken reads old from image steps step =
     (steps.0, steps.1, one_more file calls taken (after_one file first reads) steps.0 from image steps.2 step)

@@ -1,5 +1,5 @@
 -- What a call does to a disk in memory, whether it succeeds or fails.
-use Rattle.std.specs.Prelude.{◌≡◌, ◌≢◌, ℕ, false, List, Result, OnOk, OnErr}
+use Rattle.std.specs.Prelude.{◌≡◌, ◌≢◌, false, Result, OnOk, OnErr}
 use Rattle.sp_base.specs.declared.failure.Failed.{Failed}
 use Rattle.sp_disk.specs.Disk.{Folder, SameElsewhere, Follows, AddsNone, HoldsOnly}
 use Rattle.sp_disk.specs.Calls.{after_call, IsCutOff}

@@ -4,7 +4,7 @@ use Rattle.sp_disk.specs.Disk.{Folder, Torn, Shortened, written}
 use Rattle.sp_disk.specs.declared.disk.File.{File}
 use Rattle.sp_disk.specs.declared.disk.File.TheVariants.{Journal, Image}
 use Rattle.sp_disk.specs.declared.call.Call.{Call}
-use Rattle.sp_disk.specs.declared.call.Call.TheVariants.{Len, Read, Write, Cut, Sync}
+use Rattle.sp_disk.specs.declared.call.Call.TheVariants.{Write, Cut, Sync}
 use Rattle.sp_disk.specs.declared.call.Taken.{Taken}
 
 -- whether both are one file

@@ -2,7 +2,7 @@
 ghost use Rattle.std.specs.Prelude.{◌≡◌, ◌≤◌, ◌<◌, ◌+◌, ◌-◌, ◌*◌, [], ℕ, length, take, drop, min, vec_len, IfOk, OnOk, OnErr};
 ghost use Rattle.sp_disk.specs.Disk.{SameElsewhere, Fills, written};
 ghost use Rattle.sp_disk.specs.Contents.{held};
-ghost use Rattle.sp_disk.specs.Calls.{after_one, first_half};
+ghost use Rattle.sp_disk.specs.Calls.{after_call, after_one, first_half};
 
 use crate::call::{Call, Taken};
 use crate::disk::File;
@@ -46,27 +46,23 @@ impl Contents {
         }
     }
 
-    /// Does what a call does to the files. Where a growth is refused, nothing has changed.
+    /// Puts other bytes in the place of a file's.
+    pub(crate) fn replace(&mut self, file: File, bytes: &[u8]) -> Result<(), AllocError>
+        ensures ok { OnOk result (held self.new file ≡ bytes.now) }
+        ensures others { SameElsewhere file (held self.old) (held self.new) }
+    {
+        self.truncate(file, 0);
+        self.put(file, 0, bytes)
+    }
+
+    /// Does what a call does to its file. Where a growth is refused, nothing has changed.
     pub(crate) fn take(&mut self, taken: &Taken) -> Result<(), AllocError>
         ensures ok { OnOk result ((file : _) → held self.new file ≡ after_one file taken.now (held self.old file)) }
         ensures err { OnErr result ((file : _) → held self.new file ≡ held self.old file) }
     {
-        match &taken.call {
-            Call::Write { at, bytes } => {
-                let part = if taken.failed {
-                    first_half(bytes.as_slice())
-                } else {
-                    bytes.as_slice()
-                };
-                self.put(taken.file, *at as usize, part)
-            }
-            Call::Cut { len } => {
-                if !taken.failed {
-                    self.truncate(taken.file, *len as usize);
-                }
-                Ok(())
-            }
-            Call::Len | Call::Read { .. } | Call::Sync => Ok(()),
+        match taken.file {
+            File::Journal => apply(&mut self.journal, &taken.call, taken.failed),
+            File::Image => apply(&mut self.image, &taken.call, taken.failed),
         }
     }
 
@@ -81,6 +77,8 @@ impl Contents {
     }
 }
 
+/// Puts bytes at an offset, or at the end where that comes first. Where a growth is refused,
+/// nothing has changed.
 pub(crate) fn put(file: &mut Vec<u8>, at: usize, bytes: &[u8]) -> Result<(), AllocError>
     ensures ok { OnOk result (file.new.items ≡ written file.old.items at bytes.now) }
     ensures err { OnErr result (file.new.items ≡ file.old.items) }
@@ -90,6 +88,29 @@ pub(crate) fn put(file: &mut Vec<u8>, at: usize, bytes: &[u8]) -> Result<(), All
     file.extend_from_slice(&bytes[inside..])?;
     file[at..at + inside].copy_from_slice(&bytes[..inside]);
     Ok(())
+}
+
+/// Does what a call does to the bytes of its file. Where a growth is refused, nothing has changed.
+pub(crate) fn apply(file: &mut Vec<u8>, call: &Call, failed: bool) -> Result<(), AllocError>
+    ensures ok { OnOk result (file.new.items ≡ after_call call.now failed file.old.items) }
+    ensures err { OnErr result (file.new.items ≡ file.old.items) }
+{
+    match call {
+        Call::Write { at, bytes } => {
+            if failed {
+                put(file, *at as usize, first_half(bytes.as_slice()))
+            } else {
+                put(file, *at as usize, bytes.as_slice())
+            }
+        }
+        Call::Cut { len } => {
+            if !failed {
+                file.truncate(*len as usize);
+            }
+            Ok(())
+        }
+        Call::Len | Call::Read { .. } | Call::Sync => Ok(()),
+    }
 }
 
 /// The first half of some bytes, the greater one.

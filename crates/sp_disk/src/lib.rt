@@ -3,7 +3,9 @@
 
 mod contents;
 pub mod call;
+mod crash;
 pub mod disk;
 pub mod flat;
+pub mod folder;
 pub mod memory;
 

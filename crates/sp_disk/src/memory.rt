@@ -1,17 +1,19 @@
 //! A disk in memory that can crash, fail and stop.
-ghost use Rattle.std.specs.Prelude.{◌≡◌, ◌≤◌, ◌⊎◌, ◌++◌, [], ◌∷◌, true, false, OnOk, OnErr};
+ghost use Rattle.std.specs.Prelude.{◌≡◌, ◌≤◌, [], length, IfOk};
 ghost use Rattle.sp_base.specs.Causes.{HasCause, Rose};
 ghost use Rattle.sp_disk.specs.declared.disk.File.{File};
 ghost use Rattle.sp_disk.specs.Contents.{held};
-ghost use Rattle.sp_disk.specs.Calls.{after_all};
+ghost use Rattle.sp_disk.specs.Calls.{after_all, IsImage};
+ghost use Rattle.sp_disk.specs.Disk.{SameElsewhere, SameImages, Only};
 ghost use Rattle.sp_disk.specs.Acted.{Acted};
 ghost use Rattle.sp_disk.specs.Moments.{Elapses};
 
 use crate::call::{Call, Taken};
 use crate::contents::{Contents, fill};
+use crate::crash::picked;
 use crate::disk::{Disk, File};
 use sp_base::bytes::Bytes;
-use sp_base::failure::Failed;
+use sp_base::failure::{Failed, Memory};
 use std::alloc::Global;
 
 /// Which calls are to fail. Calls are counted from 1.
@@ -50,7 +52,10 @@ pub struct MemoryDisk {
 impl MemoryDisk {
     /// A disk whose files are empty, and none of whose calls is to fail.
     pub fn new(alloc: Global) -> MemoryDisk
-        ensures { (file : _) → ⟦<MemoryDisk as Disk>⟧.content result file ≡ [] }
+        ensures content { (file : _) → ⟦<MemoryDisk as Disk>⟧.content result file ≡ [] }
+        ensures settled { Only (⟦<MemoryDisk as Disk>⟧.content result) (⟦<MemoryDisk as Disk>⟧.may_leave result) }
+        ensures moment { ⟦<MemoryDisk as Disk>⟧.moment result ≡ 0 }
+        ensures faults { ⟦<MemoryDisk as Disk>⟧.faults result ≡ 0 }
     {
         MemoryDisk {
             alloc,
@@ -64,6 +69,79 @@ impl MemoryDisk {
             },
             faults: 0,
         }
+    }
+
+    /// The disk, which took no call yet, with these bytes in a file, all of them synced.
+    pub fn with_file(mut self, file: File, bytes: &[u8]) -> Result<MemoryDisk, Memory>
+        requires { ⟦<MemoryDisk as Disk>⟧.moment self ≡ 0 }
+        ensures content { IfOk result (λ disk. ⟦<MemoryDisk as Disk>⟧.content disk file ≡ bytes.now) }
+        ensures others { IfOk result (λ disk. SameElsewhere file (⟦<MemoryDisk as Disk>⟧.content self) (⟦<MemoryDisk as Disk>⟧.content disk)) }
+        ensures settled { IfOk result (λ disk. Only (⟦<MemoryDisk as Disk>⟧.content disk) (⟦<MemoryDisk as Disk>⟧.may_leave disk)) }
+        ensures moment { IfOk result (λ disk. ⟦<MemoryDisk as Disk>⟧.moment disk ≡ 0) }
+        ensures faults { IfOk result (λ disk. ⟦<MemoryDisk as Disk>⟧.faults disk ≡ ⟦<MemoryDisk as Disk>⟧.faults self) }
+    {
+        let Ok(()) = self.first.replace(file, bytes) else {
+            return Err(Memory);
+        };
+        let Ok(()) = self.contents.replace(file, bytes) else {
+            return Err(Memory);
+        };
+        Ok(self)
+    }
+
+    /// The disk, the calls of a list of which fail. Calls are counted from 1.
+    pub fn failing(mut self, calls: Vec<u64>) -> MemoryDisk
+        ensures content { ⟦<MemoryDisk as Disk>⟧.content result ≡ ⟦<MemoryDisk as Disk>⟧.content self }
+        ensures images { SameImages (⟦<MemoryDisk as Disk>⟧.may_leave self) (⟦<MemoryDisk as Disk>⟧.may_leave result) }
+        ensures moment { ⟦<MemoryDisk as Disk>⟧.moment result ≡ ⟦<MemoryDisk as Disk>⟧.moment self }
+        ensures faults { ⟦<MemoryDisk as Disk>⟧.faults result ≡ ⟦<MemoryDisk as Disk>⟧.faults self }
+    {
+        self.plan.failing = calls;
+        self
+    }
+
+    /// The disk that stops at a call: that one and all later ones fail. Calls are counted from 1.
+    pub fn stopping(mut self, call: u64) -> MemoryDisk
+        ensures content { ⟦<MemoryDisk as Disk>⟧.content result ≡ ⟦<MemoryDisk as Disk>⟧.content self }
+        ensures images { SameImages (⟦<MemoryDisk as Disk>⟧.may_leave self) (⟦<MemoryDisk as Disk>⟧.may_leave result) }
+        ensures moment { ⟦<MemoryDisk as Disk>⟧.moment result ≡ ⟦<MemoryDisk as Disk>⟧.moment self }
+        ensures faults { ⟦<MemoryDisk as Disk>⟧.faults result ≡ ⟦<MemoryDisk as Disk>⟧.faults self }
+    {
+        self.plan.stop = Some(call);
+        self
+    }
+
+    /// The disk after a crash now that leaves the image that a number picks.
+    ///
+    /// Each write and cut of a file since its last sync that succeeded takes one digit of the number
+    /// to the base 4, the last digit first, those of the journal before those of the image: 0 for a
+    /// call that is done whole, 1 for one that isn't done, 2 for one that is half done, 3 for a write
+    /// whose range holds other bytes. So 0 picks what a read gives where no write failed.
+    pub fn after_crash(&self, alloc: Global, number: u64) -> Result<MemoryDisk, Memory>
+        ensures image { IfOk result (λ disk. ⟦<MemoryDisk as Disk>⟧.may_leave self.now (⟦<MemoryDisk as Disk>⟧.content disk)) }
+        ensures settled { IfOk result (λ disk. Only (⟦<MemoryDisk as Disk>⟧.content disk) (⟦<MemoryDisk as Disk>⟧.may_leave disk)) }
+        ensures moment { IfOk result (λ disk. ⟦<MemoryDisk as Disk>⟧.moment disk ≡ 0) }
+        ensures faults { IfOk result (λ disk. ⟦<MemoryDisk as Disk>⟧.faults disk ≡ 0) }
+    {
+        let (journal, rest) = self.picked(alloc, File::Journal, number)?;
+        let (image, _) = self.picked(alloc, File::Image, rest)?;
+        MemoryDisk::new(alloc)
+            .with_file(File::Journal, journal.as_slice())?
+            .with_file(File::Image, image.as_slice())
+    }
+
+    fn picked(&self, alloc: Global, file: File, number: u64) -> Result<(Vec<u8>, u64), Memory>
+        ensures { IfOk result (λ picked. IsImage file self.now.calls.items (held self.now.first file) (held self.now.first file) picked.0.items) }
+    {
+        let calls = self.calls.as_slice();
+        picked(alloc, self.first.bytes(file), file, calls, number).map_err(|_| Memory)
+    }
+
+    /// The calls that the disk took, in order. One whose growth was refused isn't among them.
+    pub fn calls(&self) -> &[Taken]
+        ensures { length result.now ≡ ⟦<MemoryDisk as Disk>⟧.moment self.now }
+    {
+        self.calls.as_slice()
     }
 
     /// The bytes of a file as a read gives them.

@@ -1,5 +1,4 @@
-use Rattle.std.proofs.Common.{◌≡◌, ◌++◌, [], ◌∷◌, List, ℕ, Bool, rules, sym, ◌∙◌, ap, refl}
-use Rattle.std.proofs.lemmas.Grind.{common_steps}
+use Rattle.std.proofs.Common.{◌≡◌, ◌++◌, [], ◌∷◌, rules, ◌∙◌, ap, refl}
 use Rattle.sp_disk.specs.Contents.{held}
 use Rattle.sp_disk.specs.Calls.{after_one}
 use Rattle.sp_disk.specs.declared.contents.Contents.{Contents}

@@ -1,4 +1,4 @@
-use Rattle.std.proofs.Common.{◌≡◌, ◌≢◌, List, ℕ, length, rules, subst, ap}
+use Rattle.std.proofs.Common.{◌≢◌, List, ℕ, length, rules, subst}
 use Rattle.sp_disk.specs.Contents.{held}
 use Rattle.sp_disk.specs.Disk.{Follows, Torn}
 use Rattle.sp_disk.specs.Calls.{MayLeave}
