@@ -1,3 +1,4 @@
 mod Acts
 mod CutOff
 mod Grown
+pub mod MomentLemmas
