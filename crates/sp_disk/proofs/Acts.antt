@@ -74,15 +74,15 @@ module _ (file : File) (call : Call) (first first' before after : Contents) (cal
       → Acted file call (Err e) (held before) (held after) (MayLeave (held first) calls) (MayLeave (held first') calls')
   refuses e none same =
       subst (λ (images : Folder → Type 0). Acted file call (Err e) (held before) (held after) (MayLeave (held first) calls) images)
-        (ap (λ (l : List Taken). MayLeave (held first) l) (sym none) ∙ ap (λ (c : Contents). MayLeave (held c) calls') (sym kept))
-        (acted_refused file call (held before) (held after) (MayLeave (held first) calls) e same)
+      (ap (λ (l : List Taken). MayLeave (held first) l) (sym none) ∙ ap (λ (c : Contents). MayLeave (held c) calls') (sym kept))
+      (acted_refused file call (held before) (held after) (MayLeave (held first) calls) e same)
 
   pub refuses_in_time : calls' ≡ calls
       → Elapses (length calls) (length calls') (MightHaveLeft (held first) calls) (MightHaveLeft (held first') calls') (MayLeave (held first') calls')
   refuses_in_time none =
       subst (λ (c : Contents). Elapses (length calls) (length calls') (MightHaveLeft (held first) calls) (MightHaveLeft (held c) calls') (MayLeave (held c) calls')) (sym kept)
-        (subst (λ (l : List Taken). Elapses (length calls) (length l) (MightHaveLeft (held first) calls) (MightHaveLeft (held first) l) (MayLeave (held first) l)) (sym none)
-          (same_time (held first) calls))
+      (subst (λ (l : List Taken). Elapses (length calls) (length l) (MightHaveLeft (held first) calls) (MightHaveLeft (held first) l) (MayLeave (held first) l)) (sym none)
+      (same_time (held first) calls))
 
   module _ (failed : Bool) (pushed : calls' ≡ calls ++ (record { file = file; call = call; failed = failed }) ∷ []) where
     -- a call that was recorded did what such a call does
@@ -91,14 +91,14 @@ module _ (file : File) (call : Call) (first first' before after : Contents) (cal
         → Acted file call result (held before) (held after) (MayLeave (held first) calls) (MayLeave (held first') calls')
     acts result was steps succeeds =
         subst (λ (images : Folder → Type 0). Acted file call result (held before) (held after) (MayLeave (held first) calls) images)
-          (ap (λ (l : List Taken). MayLeave (held first) l) (sym pushed) ∙ ap (λ (c : Contents). MayLeave (held c) calls') (sym kept))
-          (acted_pushed (held first) (held before) (held after) calls file call failed result was steps succeeds)
+        (ap (λ (l : List Taken). MayLeave (held first) l) (sym pushed) ∙ ap (λ (c : Contents). MayLeave (held c) calls') (sym kept))
+        (acted_pushed (held first) (held before) (held after) calls file call failed result was steps succeeds)
 
     pub acts_in_time : Elapses (length calls) (length calls') (MightHaveLeft (held first) calls) (MightHaveLeft (held first') calls') (MayLeave (held first') calls')
     acts_in_time =
         subst (λ (c : Contents). Elapses (length calls) (length calls') (MightHaveLeft (held first) calls) (MightHaveLeft (held c) calls') (MayLeave (held c) calls')) (sym kept)
-          (subst (λ (l : List Taken). Elapses (length calls) (length l) (MightHaveLeft (held first) calls) (MightHaveLeft (held first) l) (MayLeave (held first) l)) (sym pushed)
-            (grown_time (held first) calls (record { file = file; call = call; failed = failed })))
+        (subst (λ (l : List Taken). Elapses (length calls) (length l) (MightHaveLeft (held first) calls) (MightHaveLeft (held first) l) (MayLeave (held first) l)) (sym pushed)
+        (grown_time (held first) calls (record { file = file; call = call; failed = failed })))
 
     -- the files as they read are those that the calls make
     pub replayed : ((f : File) → held before f ≡ after_all f calls (held first f))

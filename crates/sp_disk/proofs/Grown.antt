@@ -68,9 +68,9 @@ module _ (first : Folder) (calls : List Taken) (file : File) (call : Call) (fail
     origin image left,
     λ f. (last f calls taken (first f) (first f) (image f) (left f)).is_image,
     cut_off_of call failed (after_all file calls (first file)) (origin image left file) (image file) other
-      (here file call failed (after_all file calls (first file)) (origin image left file) (image file) (last file calls taken (first file) (first file) (image file) (left file)).step),
+        (here file call failed (after_all file calls (first file)) (origin image left file) (image file) (last file calls taken (first file) (first file) (image file) (left file)).step),
     λ f differ. there file f call failed (after_all f calls (first f)) (origin image left f) (image f) differ
-      (last f calls taken (first f) (first f) (image f) (left f)).step,
+        (last f calls taken (first f) (first f) (image f) (left f)).step,
   )
 
   stays : (f : File) (reads bytes : List ℕ) → call ≢ Sync → LeavesOne f taken reads bytes bytes

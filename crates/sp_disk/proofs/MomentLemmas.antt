@@ -1,5 +1,5 @@
 -- How a run of calls on a disk goes on, moment by moment.
-use Rattle.std.proofs.Common.{◌≤◌, inl, inr, ⊎_elim, ℕ, arith}
+use Rattle.std.proofs.Common.{inl, inr, ⊎_elim, ℕ, arith}
 use Rattle.sp_disk.specs.Disk.{Folder}
 use Rattle.sp_disk.specs.Moments.{Elapses, LeavesOnly}
 

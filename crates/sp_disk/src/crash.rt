@@ -71,13 +71,7 @@ fn after(taken: &Taken, file: File, number: u64, rest: u64) -> u64 {
     }
     match taken.call {
         Call::Write { .. } | Call::Cut { .. } => rest / 4,
-        Call::Sync => {
-            if taken.failed {
-                rest
-            } else {
-                number
-            }
-        }
+        Call::Sync => { if taken.failed { rest } else { number } }
         Call::Len | Call::Read { .. } => rest,
     }
 }
@@ -90,7 +84,14 @@ impl Replay {
         if taken.file != file {
             return Ok(());
         }
-        crash(alloc, &mut self.image, &self.reads, &taken.call, taken.failed, way)?;
+        crash(
+            alloc,
+            &mut self.image,
+            &self.reads,
+            &taken.call,
+            taken.failed,
+            way,
+        )?;
         apply(&mut self.reads, &taken.call, taken.failed)
     }
 }
@@ -123,7 +124,13 @@ fn crash(
     }
 }
 
-fn tear(alloc: Global, image: &mut Vec<u8>, at: usize, bytes: &[u8], way: Way) -> Result<(), AllocError>
+fn tear(
+    alloc: Global,
+    image: &mut Vec<u8>,
+    at: usize,
+    bytes: &[u8],
+    way: Way,
+) -> Result<(), AllocError>
     ensures { OnOk result (Torn at (length bytes.now) image.old.items image.new.items) }
 {
     match way {

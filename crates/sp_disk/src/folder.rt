@@ -133,7 +133,11 @@ impl Named {
     // Opens the file where it is there.
     fn find<R: Files<File = fs::File>>(&mut self, runtime: &R) -> io::Result<()> {
         if self.open.is_none() {
-            match OpenOptions::new().read(true).write(true).open(runtime, self.name) {
+            match OpenOptions::new()
+                .read(true)
+                .write(true)
+                .open(runtime, self.name)
+            {
                 Ok(file) => self.open = Some(file),
                 Err(e) => {
                     if e.kind() != ErrorKind::NotFound {
@@ -153,7 +157,12 @@ impl Named {
         }
     }
 
-    fn read<R: Files<File = fs::File>>(&mut self, runtime: &R, at: u64, into: &mut [u8]) -> io::Result<usize>
+    fn read<R: Files<File = fs::File>>(
+        &mut self,
+        runtime: &R,
+        at: u64,
+        into: &mut [u8],
+    ) -> io::Result<usize>
         ensures { IfOk result (λ count. count ≤ length into.new) }
     {
         self.find(runtime)?;
@@ -163,10 +172,19 @@ impl Named {
         }
     }
 
-    fn write<R: Files<File = fs::File>>(&mut self, runtime: &R, at: u64, bytes: &[u8]) -> io::Result<()> {
+    fn write<R: Files<File = fs::File>>(
+        &mut self,
+        runtime: &R,
+        at: u64,
+        bytes: &[u8],
+    ) -> io::Result<()> {
         self.find(runtime)?;
         if self.open.is_none() {
-            let made = OpenOptions::new().read(true).write(true).create(true).open(runtime, self.name)?;
+            let made = OpenOptions::new()
+                .read(true)
+                .write(true)
+                .create(true)
+                .open(runtime, self.name)?;
             self.open = Some(made);
         }
         match &self.open {

@@ -17,7 +17,7 @@ loop-taken-preserved c =
     subst (λ (reads : List ℕ). LeavesOne file taken reads c.loop-taken.replay.image.items c.step.new.self.image.items) c.loop-taken.invariant.reads c.in_ok-step.ensures.image in
     record {
       reads = c.in_ok-step.ensures.reads ∙ ap (λ (l : List ℕ). after_one file taken l) c.loop-taken.invariant.reads
-        ∙ sym (after_push file seen taken first) ∙ ap (λ (l : List Taken). after_all file l first) (sym more);
+          ∙ sym (after_push file seen taken first) ∙ ap (λ (l : List Taken). after_all file l first) (sym more);
       image = subst (λ (l : List Taken). IsImage file l first first c.step.new.self.image.items) (sym more)
-        (one_more file seen taken first first c.loop-taken.replay.image.items c.step.new.self.image.items c.loop-taken.invariant.image step);
+          (one_more file seen taken first first c.loop-taken.replay.image.items c.step.new.self.image.items c.loop-taken.invariant.image step);
     }

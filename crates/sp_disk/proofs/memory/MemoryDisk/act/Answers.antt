@@ -12,7 +12,7 @@ returns-then-is_err-clause-acted c =
     let disk = c.args.self.now in
     let new = c.fault.new.self in
     refuses c.args.file c.args.call disk.first new.first disk.contents new.contents disk.calls.items new.calls.items c.fault.ensures.first c.fault.result
-      (search rules) (λ file. search rules)
+    (search rules) (λ file. search rules)
 
 pub returns-then-is_err-clause-time : goal.returns-then-is_err-clause-time
 returns-then-is_err-clause-time c =
@@ -25,7 +25,7 @@ returns-in_default-clause-acted c =
     let disk = c.args.self.now in
     let new = c.fault-in_default.new.self in
     refuses c.args.file c.args.call disk.first new.first disk.contents new.contents disk.calls.items new.calls.items c.fault-in_default.ensures.first c.fault-in_default.result
-      (search rules) (λ file. ap (λ (held_by : Contents). held held_by file) c.fault-in_default.ensures.contents ∙ c.in_default.ensures.err file)
+    (search rules) (λ file. ap (λ (held_by : Contents). held held_by file) c.fault-in_default.ensures.contents ∙ c.in_default.ensures.err file)
 
 pub returns-in_default-clause-time : goal.returns-in_default-clause-time
 returns-in_default-clause-time c =
