@@ -20,7 +20,8 @@ impl FlatDisk {
 
     /// A disk whose files are empty.
     pub fn new(alloc: Global) -> FlatDisk
-        ensures { (file : _) → ⟦<FlatDisk as Disk>⟧.content result file ≡ [] }
+        ensures content { (file : _) → ⟦<FlatDisk as Disk>⟧.content result file ≡ [] }
+        ensures faults { ⟦<FlatDisk as Disk>⟧.faults result ≡ 0 }
     {
         FlatDisk {
             contents: Contents::new(alloc),

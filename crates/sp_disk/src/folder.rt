@@ -23,7 +23,9 @@ pub struct FolderDisk<R: Files<File = fs::File>> {
 
 impl<R: Files<File = fs::File>> FolderDisk<R> {
     /// The disk over the folder in which the runtime works. Nothing is opened or made yet.
-    pub fn new(runtime: R) -> FolderDisk<R> {
+    pub fn new(runtime: R) -> FolderDisk<R>
+        ensures { result.faults ≡ 0 }
+    {
         FolderDisk {
             runtime,
             journal: Named::new("journal.sp"),

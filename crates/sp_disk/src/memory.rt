@@ -1,12 +1,8 @@
 //! A disk in memory that can crash, fail and stop.
-ghost use Rattle.std.specs.Prelude.{◌≡◌, ◌≤◌, [], length, IfOk};
-ghost use Rattle.sp_base.specs.Causes.{HasCause, Rose};
+ghost use Rattle.std.specs.Prelude.{◌≡◌};
 ghost use Rattle.sp_disk.specs.declared.disk.File.{File};
 ghost use Rattle.sp_disk.specs.Contents.{held};
-ghost use Rattle.sp_disk.specs.Calls.{after_all, IsImage};
-ghost use Rattle.sp_disk.specs.Disk.{SameElsewhere, SameImages, Only};
-ghost use Rattle.sp_disk.specs.Acted.{Acted};
-ghost use Rattle.sp_disk.specs.Moments.{Elapses};
+ghost use Rattle.sp_disk.specs.Calls.{after_all};
 
 use crate::call::{Call, Taken};
 use crate::contents::{Contents, fill};
@@ -50,11 +46,22 @@ pub struct MemoryDisk {
 }
 
 impl MemoryDisk {
+    ghost use Rattle.std.specs.Prelude.{◌≡◌, ◌≤◌, [], length, IfOk};
+    ghost use Rattle.sp_base.specs.Causes.{HasCause, Rose};
+    ghost use Rattle.sp_disk.specs.Contents.{held};
+    ghost use Rattle.sp_disk.specs.Calls.{IsImage};
+    ghost use Rattle.sp_disk.specs.Disk.{SameElsewhere, SameImages, Only};
+    ghost use Rattle.sp_disk.specs.Acted.{Acted};
+    ghost use Rattle.sp_disk.specs.Moments.{Elapses};
+    ghost use Rattle.sp_disk.specs.MemoryDisk.{taken_by, failing_calls, stop_of};
+
     /// A disk whose files are empty, and none of whose calls is to fail.
     pub fn new(alloc: Global) -> MemoryDisk
         ensures content { (file : _) → ⟦<MemoryDisk as Disk>⟧.content result file ≡ [] }
         ensures settled { Only (⟦<MemoryDisk as Disk>⟧.content result) (⟦<MemoryDisk as Disk>⟧.may_leave result) }
-        ensures moment { ⟦<MemoryDisk as Disk>⟧.moment result ≡ 0 }
+        ensures taken { taken_by result ≡ [] }
+        ensures failing { failing_calls result ≡ [] }
+        ensures stop { stop_of result ≡ None }
         ensures faults { ⟦<MemoryDisk as Disk>⟧.faults result ≡ 0 }
     {
         MemoryDisk {
@@ -73,11 +80,13 @@ impl MemoryDisk {
 
     /// The disk, which took no call yet, with these bytes in a file, all of them synced.
     pub fn with_file(mut self, file: File, bytes: &[u8]) -> Result<MemoryDisk, Memory>
-        requires { ⟦<MemoryDisk as Disk>⟧.moment self ≡ 0 }
+        requires { taken_by self ≡ [] }
         ensures content { IfOk result (λ disk. ⟦<MemoryDisk as Disk>⟧.content disk file ≡ bytes.now) }
         ensures others { IfOk result (λ disk. SameElsewhere file (⟦<MemoryDisk as Disk>⟧.content self) (⟦<MemoryDisk as Disk>⟧.content disk)) }
         ensures settled { IfOk result (λ disk. Only (⟦<MemoryDisk as Disk>⟧.content disk) (⟦<MemoryDisk as Disk>⟧.may_leave disk)) }
-        ensures moment { IfOk result (λ disk. ⟦<MemoryDisk as Disk>⟧.moment disk ≡ 0) }
+        ensures taken { IfOk result (λ disk. taken_by disk ≡ []) }
+        ensures failing { IfOk result (λ disk. failing_calls disk ≡ failing_calls self) }
+        ensures stop { IfOk result (λ disk. stop_of disk ≡ stop_of self) }
         ensures faults { IfOk result (λ disk. ⟦<MemoryDisk as Disk>⟧.faults disk ≡ ⟦<MemoryDisk as Disk>⟧.faults self) }
     {
         let Ok(()) = self.first.replace(file, bytes) else {
@@ -91,9 +100,11 @@ impl MemoryDisk {
 
     /// The disk, the calls of a list of which fail. Calls are counted from 1.
     pub fn failing(mut self, calls: Vec<u64>) -> MemoryDisk
+        ensures failing { failing_calls result ≡ calls.items }
+        ensures stop { stop_of result ≡ stop_of self }
         ensures content { ⟦<MemoryDisk as Disk>⟧.content result ≡ ⟦<MemoryDisk as Disk>⟧.content self }
         ensures images { SameImages (⟦<MemoryDisk as Disk>⟧.may_leave self) (⟦<MemoryDisk as Disk>⟧.may_leave result) }
-        ensures moment { ⟦<MemoryDisk as Disk>⟧.moment result ≡ ⟦<MemoryDisk as Disk>⟧.moment self }
+        ensures taken { taken_by result ≡ taken_by self }
         ensures faults { ⟦<MemoryDisk as Disk>⟧.faults result ≡ ⟦<MemoryDisk as Disk>⟧.faults self }
     {
         self.plan.failing = calls;
@@ -102,9 +113,11 @@ impl MemoryDisk {
 
     /// The disk that stops at a call: that one and all later ones fail. Calls are counted from 1.
     pub fn stopping(mut self, call: u64) -> MemoryDisk
+        ensures failing { failing_calls result ≡ failing_calls self }
+        ensures stop { stop_of result ≡ Some call }
         ensures content { ⟦<MemoryDisk as Disk>⟧.content result ≡ ⟦<MemoryDisk as Disk>⟧.content self }
         ensures images { SameImages (⟦<MemoryDisk as Disk>⟧.may_leave self) (⟦<MemoryDisk as Disk>⟧.may_leave result) }
-        ensures moment { ⟦<MemoryDisk as Disk>⟧.moment result ≡ ⟦<MemoryDisk as Disk>⟧.moment self }
+        ensures taken { taken_by result ≡ taken_by self }
         ensures faults { ⟦<MemoryDisk as Disk>⟧.faults result ≡ ⟦<MemoryDisk as Disk>⟧.faults self }
     {
         self.plan.stop = Some(call);
@@ -120,7 +133,9 @@ impl MemoryDisk {
     pub fn after_crash(&self, alloc: Global, number: u64) -> Result<MemoryDisk, Memory>
         ensures image { IfOk result (λ disk. ⟦<MemoryDisk as Disk>⟧.may_leave self.now (⟦<MemoryDisk as Disk>⟧.content disk)) }
         ensures settled { IfOk result (λ disk. Only (⟦<MemoryDisk as Disk>⟧.content disk) (⟦<MemoryDisk as Disk>⟧.may_leave disk)) }
-        ensures moment { IfOk result (λ disk. ⟦<MemoryDisk as Disk>⟧.moment disk ≡ 0) }
+        ensures taken { IfOk result (λ disk. taken_by disk ≡ []) }
+        ensures failing { IfOk result (λ disk. failing_calls disk ≡ []) }
+        ensures stop { IfOk result (λ disk. stop_of disk ≡ None) }
         ensures faults { IfOk result (λ disk. ⟦<MemoryDisk as Disk>⟧.faults disk ≡ 0) }
     {
         let (journal, rest) = self.picked(alloc, File::Journal, number)?;
@@ -137,9 +152,16 @@ impl MemoryDisk {
         picked(alloc, self.first.bytes(file), file, calls, number).map_err(|_| Memory)
     }
 
+    /// How often a call has failed. At the greatest `u64` the count stands.
+    pub fn faults(&self) -> u64
+        ensures { result ≡ ⟦<MemoryDisk as Disk>⟧.faults self.now }
+    {
+        self.faults
+    }
+
     /// The calls that the disk took, in order. One whose growth was refused isn't among them.
     pub fn calls(&self) -> &[Taken]
-        ensures { length result.now ≡ ⟦<MemoryDisk as Disk>⟧.moment self.now }
+        ensures { result.now ≡ taken_by self.now }
     {
         self.calls.as_slice()
     }
