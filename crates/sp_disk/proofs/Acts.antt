@@ -10,8 +10,8 @@ use Rattle.sp_disk.specs.declared.disk.File.{File}
 use Rattle.sp_disk.specs.declared.call.Call.{Call}
 use Rattle.sp_disk.specs.declared.call.Call.TheVariants.{Sync}
 use Rattle.sp_disk.specs.declared.call.Taken.{Taken}
-use Rattle.sp_disk.specs.Calls.{after_call, after_one, after_all, IsCutOff, MayLeave, MightHaveLeft}
-use Rattle.sp_disk.proofs.CutOff.{cut_off_same, cut_off_done}
+use Rattle.sp_disk.specs.Calls.{after_call, after_one, after_all, IsHalfDone, MayLeave, MightHaveLeft}
+use Rattle.sp_disk.proofs.HalfDone.{half_done_same, half_done_done}
 use Rattle.sp_disk.proofs.Grown.{same_self, not_same, grown_images, grown_kept, grown_durable, grown_none, grown_time, same_time, after_push}
 
 -- a fact about the one outcome that there is
@@ -27,9 +27,9 @@ module _ (file : File) (call : Call) (before after : Folder) where
   acted_refused : (images : Folder → Type 0) (e : Failed) → ((f : File) → after f ≡ before f) → Acted file call (Err e) before after images images
   acted_refused images e same = record {
     done = tt;
-    cut_off = subst (λ (l : List ℕ). IsCutOff call (before file) l) (sym (same file)) (cut_off_same call (before file));
+    half_done = subst (λ (l : List ℕ). IsHalfDone call (before file) l) (sym (same file)) (half_done_same call (before file));
     others = λ other differ. same other;
-    images = λ other image left. (image, left, cut_off_same call (image file), λ f differ. refl);
+    images = λ other image left. (image, left, half_done_same call (image file), λ f differ. refl);
     kept = λ other image left. left;
     durable = λ is. tt;
     none_added = λ is image left. left;
@@ -51,7 +51,7 @@ acted_pushed : (first before after : Folder) (calls : List Taken) (file : File) 
     → Acted file call result before after (MayLeave first calls) (MayLeave first (calls ++ (record { file = file; call = call; failed = failed }) ∷ []))
 acted_pushed first before after calls file call failed result was steps succeeds = record {
   done = on_ok result _ (λ ok. here file call before after failed steps ∙ ap (λ (b : Bool). after_call call b (before file)) (succeeds ok));
-  cut_off = on_err result _ (λ err. subst (λ (l : List ℕ). IsCutOff call (before file) l) (sym (here file call before after failed steps)) (cut_off_done call failed (before file)));
+  half_done = on_err result _ (λ err. subst (λ (l : List ℕ). IsHalfDone call (before file) l) (sym (here file call before after failed steps)) (half_done_done call failed (before file)));
   others = elsewhere file call before after failed steps;
   images = grown_images first calls file call failed;
   kept = grown_kept first calls file call failed;

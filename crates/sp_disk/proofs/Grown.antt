@@ -9,9 +9,9 @@ use Rattle.sp_disk.specs.declared.disk.File.TheVariants.{Journal, Image}
 use Rattle.sp_disk.specs.declared.call.Call.{Call}
 use Rattle.sp_disk.specs.declared.call.Call.TheVariants.{Sync}
 use Rattle.sp_disk.specs.declared.call.Taken.{Taken}
-use Rattle.sp_disk.specs.Calls.{same_file, after_one, after_all, IsCutOff, Leaves, LeavesOne, IsImage, MayLeave, MightHaveLeft}
+use Rattle.sp_disk.specs.Calls.{same_file, after_one, after_all, IsHalfDone, Leaves, LeavesOne, IsImage, MayLeave, MightHaveLeft}
 use Rattle.sp_disk.specs.Images.{reads_image}
-use Rattle.sp_disk.proofs.CutOff.{cut_off_of, leaves_same}
+use Rattle.sp_disk.proofs.HalfDone.{half_done_of, leaves_same}
 
 pub same_self : (file : File) → same_file file file ≡ true
 same_self Journal = refl
@@ -63,11 +63,11 @@ module _ (first : Folder) (calls : List Taken) (file : File) (call : Call) (fail
   abbrev pub origin : (image : Folder) → MayLeave first (calls ++ taken ∷ []) image → Folder
   origin image left other = (last other calls taken (first other) (first other) (image other) (left other)).from
 
-  pub grown_images : call ≢ Sync → Follows file (IsCutOff call) (MayLeave first calls) (MayLeave first (calls ++ taken ∷ []))
+  pub grown_images : call ≢ Sync → Follows file (IsHalfDone call) (MayLeave first calls) (MayLeave first (calls ++ taken ∷ []))
   grown_images other image left = (
     origin image left,
     λ f. (last f calls taken (first f) (first f) (image f) (left f)).is_image,
-    cut_off_of call failed (after_all file calls (first file)) (origin image left file) (image file) other
+    half_done_of call failed (after_all file calls (first file)) (origin image left file) (image file) other
         (here file call failed (after_all file calls (first file)) (origin image left file) (image file) (last file calls taken (first file) (first file) (image file) (left file)).step),
     λ f differ. there file f call failed (after_all f calls (first f)) (origin image left f) (image f) differ
         (last f calls taken (first f) (first f) (image f) (left f)).step,

@@ -1,4 +1,4 @@
 mod Acts
-mod CutOff
 mod Grown
+mod HalfDone
 pub mod MomentLemmas

@@ -24,17 +24,17 @@ after_call (Write at bytes) failed file = written file at (cond failed (first_ha
 after_call (Cut len) failed file = cond failed file (take len file)
 after_call _ failed file = file
 
--- A call on the file may be cut off by a crash.
-abbrev pub IsCutOff : Call → List ℕ → List ℕ → Type 0
-IsCutOff (Write at bytes) old new = Torn at (length bytes) old new
-IsCutOff (Cut len) old new = Shortened len old new
-IsCutOff _ old new = new ≡ old
+-- A call on the file is whole, half done or not done.
+abbrev pub IsHalfDone : Call → List ℕ → List ℕ → Type 0
+IsHalfDone (Write at bytes) old new = Torn at (length bytes) old new
+IsHalfDone (Cut len) old new = Shortened len old new
+IsHalfDone _ old new = new ≡ old
 
 -- what a crash after a call on the file may leave, of what one before it might have left:
--- a sync that succeeds leaves what a read gives, and every other call is done or cut off
+-- a sync that succeeds leaves what a read gives, and every other call is done, half done or not done
 abbrev pub Leaves : Call → Bool → List ℕ → List ℕ → List ℕ → Type 0
 Leaves Sync false reads old new = new ≡ reads
-Leaves call failed reads old new = (new ≡ after_call call failed old) ⊎ IsCutOff call old new
+Leaves call failed reads old new = (new ≡ after_call call failed old) ⊎ IsHalfDone call old new
 
 -- what a read of a file gives after a call, on that file or another
 abbrev pub after_one : File → Taken → List ℕ → List ℕ

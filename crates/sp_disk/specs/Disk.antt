@@ -24,15 +24,17 @@ pub record Fills (bytes old new : List ℕ) (count : ℕ) : Type 0 where
   pub as_many : count ≡ length bytes
   pub buffer : new ≡ bytes ++ drop (length bytes) old
 
--- A write of `count` bytes at `at` that may be cut off: its range and the part past the old end may
--- hold any bytes, every other byte stays, and the length lies between the old one and the range's end.
+-- A write of `count` bytes at `at` that is whole, half done or not done: its range and the part past
+-- the old end may hold any bytes, every byte before and behind stays, the file gets no shorter, and it
+-- gets no longer than up to the range's end.
 pub record Torn (at count : ℕ) (old new : List ℕ) : Type 0 where
   pub before : take (min at (length old)) new ≡ take at old
   pub behind : drop (at + count) new ≡ drop (at + count) old
   pub no_shorter : length old ≤ length new
   pub no_longer : length new ≤ max (length old) (at + count)
 
--- A cut that may be cut off: the length lies between the new and the old one, and every byte below it stays.
+-- A cut that is whole, half done or not done: the length lies between the new and the old one, and
+-- every byte below it stays.
 pub record Shortened (len : ℕ) (old new : List ℕ) : Type 0 where
   pub no_shorter : min len (length old) ≤ length new
   pub front : new ≡ take (length new) old
@@ -43,21 +45,22 @@ SameElsewhere file old new = (other : File) → other ≢ file → new other ≡
 
 -- Each new image is an old image after this step on one file.
 abbrev pub Follows : File → (List ℕ → List ℕ → Type 0) → (Folder → Type 0) → (Folder → Type 0) → Type 0
-Follows file step old new = (c : Folder) → new c → (d : Folder) × old d × step (d file) (c file) × SameElsewhere file d c
+Follows file step old new =
+    (image : Folder) → new image → (from : Folder) × old from × step (from file) (image file) × SameElsewhere file from image
 
 -- no image is new
 abbrev pub AddsNone : (Folder → Type 0) → (Folder → Type 0) → Type 0
-AddsNone old new = (c : Folder) → new c → old c
+AddsNone old new = (image : Folder) → new image → old image
 
 -- the images are the same
 pub record SameImages (old new : Folder → Type 0) : Type 0 where
-  pub none_new : (c : Folder) → new c → old c
-  pub none_gone : (c : Folder) → old c → new c
+  pub none_new : (image : Folder) → new image → old image
+  pub none_gone : (image : Folder) → old image → new image
 
 -- every image has these bytes in this file
 abbrev pub HoldsOnly : File → List ℕ → (Folder → Type 0) → Type 0
-HoldsOnly file bytes images = (c : Folder) → images c → c file ≡ bytes
+HoldsOnly file bytes images = (image : Folder) → images image → image file ≡ bytes
 
 -- every image is what the folder holds
 abbrev pub Only : Folder → (Folder → Type 0) → Type 0
-Only folder images = (c : Folder) → images c → (file : File) → c file ≡ folder file
+Only folder images = (image : Folder) → images image → (file : File) → image file ≡ folder file

@@ -52,7 +52,7 @@ impl MemoryDisk {
     ghost use Rattle.sp_disk.specs.Calls.{IsImage};
     ghost use Rattle.sp_disk.specs.Disk.{SameElsewhere, SameImages, Only};
     ghost use Rattle.sp_disk.specs.Acted.{Acted};
-    ghost use Rattle.sp_disk.specs.Moments.{Elapses};
+    ghost use Rattle.sp_disk.specs.Moments.{Passes};
     ghost use Rattle.sp_disk.specs.MemoryDisk.{taken_by, failing_calls, stop_of};
 
     /// A disk whose files are empty, and none of whose calls is to fail.
@@ -189,8 +189,8 @@ impl MemoryDisk {
     fn act(&mut self, file: File, call: Call) -> Result<(), Failed>
         ensures acted { Acted file call result (⟦<MemoryDisk as Disk>⟧.content self.old) (⟦<MemoryDisk as Disk>⟧.content self.new)
             (⟦<MemoryDisk as Disk>⟧.may_leave self.old) (⟦<MemoryDisk as Disk>⟧.may_leave self.new) }
-        ensures time { Elapses (⟦<MemoryDisk as Disk>⟧.moment self.old) (⟦<MemoryDisk as Disk>⟧.moment self.new)
-            (⟦<MemoryDisk as Disk>⟧.left_since self.old) (⟦<MemoryDisk as Disk>⟧.left_since self.new) (⟦<MemoryDisk as Disk>⟧.may_leave self.new) }
+        ensures time { Passes ⟦<MemoryDisk as Disk>⟧.moment ⟦<MemoryDisk as Disk>⟧.left_since
+            ⟦<MemoryDisk as Disk>⟧.may_leave self.old self.new }
         ensures cause { HasCause self.old.faults self.new.faults result }
     {
         let failed = self.plan.next_fails();

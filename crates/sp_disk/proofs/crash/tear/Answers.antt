@@ -1,6 +1,6 @@
 use Rattle.std.proofs.Common.{length, Result, Ok, Err, OnOk}
 use Rattle.std.specs.declared.alloc.AllocError.{AllocError}
-use Rattle.sp_disk.proofs.CutOff.{torn_more, first_half_le}
+use Rattle.sp_disk.proofs.HalfDone.{torn_more, first_half_le}
 use Rattle.sp_disk.proofs.crash.tear.Goals as goal
 
 where_ok : {P Q : Type 0} (result : Result (Unit {0}) AllocError) → (P → Q) → OnOk result P → OnOk result Q
