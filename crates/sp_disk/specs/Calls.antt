@@ -18,7 +18,7 @@ same_file Image Image = true
 abbrev pub first_half : List ℕ → List ℕ
 first_half bytes = take (length bytes - length bytes / 2) bytes
 
--- what a read gives after a call on the file: a write that fails leaves its first half, a cut that fails nothing
+-- what a read gives after a call on the file: a write that fails does its first half, a cut that fails nothing
 abbrev pub after_call : Call → Bool → List ℕ → List ℕ
 after_call (Write at bytes) failed file = written file at (cond failed (first_half bytes) bytes)
 after_call (Cut len) failed file = cond failed file (take len file)
@@ -49,7 +49,8 @@ abbrev pub after_all : File → List Taken → List ℕ → List ℕ
 after_all file [] bytes = bytes
 after_all file (taken ∷ calls) bytes = after_all file calls (after_one file taken bytes)
 
--- A crash after these calls may leave this of a file: each step from what it held at first is one that a call may leave.
+-- A crash after these calls may leave this of a file: from what it held at first there is a step for
+-- each call, to something that a crash after that call may leave.
 abbrev pub IsImage : File → List Taken → List ℕ → List ℕ → List ℕ → Type 0
 IsImage file [] reads old image = image ≡ old
 IsImage file (taken ∷ calls) reads old image = (next : List ℕ) × LeavesOne file taken reads old next × IsImage file calls (after_one file taken reads) next image

@@ -7,8 +7,8 @@ use crate::disk::{Disk, File};
 use sp_base::failure::Failed;
 use std::alloc::Global;
 
-/// A disk in memory that keeps bytes and nothing else: it tells its content, and no images.
-/// Its one fault is that a growth was refused.
+/// A disk in memory that keeps bytes and nothing else: it tells its content and no images, so it is
+/// honest. Its one fault is that a growth was refused.
 #[derive(Debug, Drop)]
 pub struct FlatDisk {
     contents: Contents,

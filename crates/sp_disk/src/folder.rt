@@ -12,12 +12,12 @@ use std::{fs, io};
 
 /// The disk of a running program: `journal.sp` and `image.sp` in the current folder, each made at
 /// its first write. A file that isn't there reads as empty, and its sync does nothing. It tells
-/// nothing, since no contract can say what a real file holds.
+/// nothing: what its files hold is the system's.
 #[derive(Drop)]
 pub struct FolderDisk<R: Files<File = fs::File>> {
     runtime: R,
-    journal: Named,
-    image: Named,
+    journal: NamedFile,
+    image: NamedFile,
     faults: u64,
 }
 
@@ -28,8 +28,8 @@ impl<R: Files<File = fs::File>> FolderDisk<R> {
     {
         FolderDisk {
             runtime,
-            journal: Named::new("journal.sp"),
-            image: Named::new("image.sp"),
+            journal: NamedFile::new("journal.sp"),
+            image: NamedFile::new("image.sp"),
             faults: 0,
         }
     }
@@ -39,6 +39,7 @@ impl<R: Files<File = fs::File>> Disk for FolderDisk<R> {
     ghost use Rattle.std.specs.Prelude.{[], false};
     ghost use Rattle.std.proofs.Common.{rules};
 
+    // No contract can say what a real file holds.
     ghost tells = { λ _. record { content = false; images = false; honest = false } };
 
     ghost content = { λ _ _. [] };
@@ -116,16 +117,16 @@ fn counted<T: Drop>(faults: &mut u64, answer: io::Result<T>) -> Result<T, Failed
 
 // A file of the folder, which need not be there.
 #[derive(Drop)]
-struct Named {
+struct NamedFile {
     name: &'static str,
     open: Option<fs::File>,
     // Whether the folder's entry for the file was synced since the file was opened or made.
     entered: bool,
 }
 
-impl Named {
-    fn new(name: &'static str) -> Named {
-        Named {
+impl NamedFile {
+    fn new(name: &'static str) -> NamedFile {
+        NamedFile {
             name,
             open: None,
             entered: false,
