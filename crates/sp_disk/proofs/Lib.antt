@@ -1,0 +1,4 @@
+mod Acts
+mod Grown
+mod HalfDone
+pub mod MomentLemmas

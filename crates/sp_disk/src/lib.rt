@@ -1,0 +1,12 @@
+//! A disk of a few files that can crash, fail and stop, and three such disks.
+#![tactic(auto)]
+
+pub mod call;
+mod contents;
+mod crash;
+pub mod disk;
+pub mod flat;
+pub mod folder;
+pub mod memory;
+#[cfg(test)]
+mod tests;
