@@ -18,6 +18,7 @@ use std::sync::Wait;
 type TableOf<O> = Table<Option<O>, ViewOf<O>, Snapshot<O>, HallRule<O>, Global>;
 
 /// One object, shared by turns among threads.
+#[derive(Drop)]
 pub struct Hall<O: Object> {
     table: TableOf<O>,
 }
