@@ -1,11 +1,10 @@
 -- Drawing a ticket keeps the hall's rule.
-use Rattle.std.proofs.Common.{◌≡◌, ◌≢◌, ℕ, ◌+◌, ◌%◌, ◌^◌, ◌<◌, ◌≤◌, List, [], ◌∷◌, set, Bool, true, false, refl, sym, ap, ◌∙◌, subst, arith, Option, sum_by, if◌then◌else◌}
+use Rattle.std.proofs.Common.{◌≡◌, ℕ, ◌+◌, ◌%◌, ◌^◌, ◌<◌, ◌≤◌, List, set, Bool, true, false, refl, sym, ap, ◌∙◌, arith, Option, sum_by, if◌then◌else◌}
 use Rattle.std.specs.Prelude.{slice_index}
 use Rattle.std.proofs.Math.Nat.{mod-eq_of_lt}
 use mathlib.Core.Logic.{dite}
-use mathlib.Core.Option.{some, none}
+use mathlib.Core.Option.{none}
 use native.Mathlib.Decide.{ℕ_discrete}
-use lib.ListN.{get_elem?}
 use Rattle.atomic_table.specs.Table.{State, Me, keeps, step, Allows}
 use Rattle.sp_hall.specs.Rule.{waits, Fits, Ruled, with_ticket, Draws}
 use Rattle.sp_hall.specs.declared.object.Shown.{Shown}

@@ -1,5 +1,5 @@
 -- The hall as it is made, and as it is closed.
-use Rattle.std.proofs.Common.{◌≡◌, ◌≢◌, ℕ, ◌+◌, ◌^◌, ◌<◌, ◌≤◌, List, [], ◌∷◌, length, set, Bool, true, false, refl, sym, ap, ◌∙◌, subst, arith, Option, Some, sum_by}
+use Rattle.std.proofs.Common.{◌≡◌, ◌≢◌, ℕ, ◌^◌, ◌<◌, List, [], ◌∷◌, length, set, false, refl, sym, ap, ◌∙◌, subst, arith, Option, Some, sum_by}
 use mathlib.Core.Logic.{dite}
 use mathlib.Core.Option.{Option as Slot, some, none, some-injective, some-ne-none}
 use native.Mathlib.Decide.{ℕ_discrete}

@@ -1,5 +1,5 @@
 -- Passes are taken into one, the last of the list first.
-use Rattle.std.proofs.Common.{◌≡◌, ℕ, ◌+◌, List, [], ◌∷◌, ◌++◌, refl, sym, ap, ◌∙◌, subst, arith, All, sum_by, append-nil, append_assoc}
+use Rattle.std.proofs.Common.{◌≡◌, ◌+◌, List, [], ◌∷◌, ◌++◌, refl, sym, ap, ◌∙◌, subst, arith, All, sum_by, append-nil, append_assoc}
 use Rattle.std.proofs.lemmas.List.Elements.{All-nil, All-cons, All-head, All-tail, All-append}
 use Rattle.std.proofs.lemmas.List.Sums.{sum_by-append, sum_by-cons}
 use Rattle.sp_hall.specs.Halls.{HallId}
@@ -66,6 +66,6 @@ module _ {E S : Type 0} where
       → All (λ (p : Known E S). Leads p.seen b) passes
   all_seen passes rest last a b is mine others h =
       subst (All (λ (p : Known E S). Leads p.seen b)) (sym is)
-          (All-append (λ (p : Known E S). Leads p.seen b) rest (last ∷ [])
-          (seen_later a b rest h others)
-          (All-cons (λ (p : Known E S). Leads p.seen b) last [] (leads_trans last.seen a b mine h) (All-nil (λ (p : Known E S). Leads p.seen b))))
+      (All-append (λ (p : Known E S). Leads p.seen b) rest (last ∷ [])
+      (seen_later a b rest h others)
+      (All-cons (λ (p : Known E S). Leads p.seen b) last [] (leads_trans last.seen a b mine h) (All-nil (λ (p : Known E S). Leads p.seen b))))

@@ -1,5 +1,5 @@
 -- Looking and finishing keep the hall's rule.
-use Rattle.std.proofs.Common.{◌≡◌, ◌≢◌, ℕ, ◌+◌, ◌-◌, ◌%◌, ◌^◌, ◌<◌, ◌≤◌, List, [], ◌∷◌, length, set, Bool, true, false, refl, sym, ap, ◌∙◌, subst, arith, Option, Some, None, sum_by}
+use Rattle.std.proofs.Common.{◌≡◌, ◌≢◌, ℕ, ◌+◌, ◌%◌, ◌^◌, ◌<◌, ◌≤◌, List, [], ◌∷◌, length, set, true, false, refl, sym, ap, ◌∙◌, subst, arith, Option, Some, None}
 use Rattle.std.specs.Prelude.{slice_index}
 use Rattle.std.proofs.Math.Nat.{mod-eq_of_lt}
 use Rattle.std.proofs.lemmas.List.{set-get_or}
@@ -8,12 +8,12 @@ use mathlib.Core.Logic.{dite}
 use native.Mathlib.Decide.{ℕ_discrete}
 use lib.ListN.{get_elem?}
 use Rattle.atomic_table.specs.Table.{State, Me, Act, keeps, takes, gives, put_back, rest, step, stepped, Allows, Valid, carried_after}
-use Rattle.atomic_table.proofs.Lists.{set_here, set_else, set_again}
-use Rattle.sp_hall.specs.Rule.{waits, Fits, Ruled, IsAnyAtTurn, at_turn, after_call, TakesTurn, Looks, Finishes}
+use Rattle.atomic_table.proofs.Lists.{set_here, set_again}
+use Rattle.sp_hall.specs.Rule.{waits, Fits, Ruled, IsAnyAtTurn, at_turn, after_call, Looks, Finishes}
 use Rattle.sp_hall.specs.States.{IsCounted, Leads}
 use Rattle.sp_hall.specs.declared.object.Shown.{Shown}
 use Rattle.sp_hall.specs.declared.seat.View.{View}
-use Rattle.sp_hall.proofs.Draws.{no_wait, one_wait}
+use Rattle.sp_hall.proofs.Draws.{one_wait}
 use Rattle.sp_hall.proofs.Later.{begins_refl, leads_refl, leads_trans}
 use Rattle.sp_hall.proofs.Views.{off, there, first_of, sum_set, one_le, each_set, distinct_set}
 
@@ -57,10 +57,10 @@ module _ {O E S : Type 0} (shows : O → Shown E S) where
           let gone : get_elem? (set s.homes 0 none) 0 ≡ some none = set_here s.homes 0 none (there s.homes 0 _ f.1) in
           let seen : Leads v.seen (shows o) = subst (Leads v.seen) (sym f.2) (mine.seen some_part) in
           let made : v.made ≤ (shows o).count =
-              let a = one_le (λ u. u.made) s.views id v at in
-              let b = h.made in
-              let c : (shows o).count ≡ h.now.count = ap (λ (x : Shown E S). x.count) f.2 in
-              omega arith in (
+          let a = one_le (λ u. u.made) s.views id v at in
+          let b = h.made in
+          let c : (shows o).count ≡ h.now.count = ap (λ (x : Shown E S). x.count) f.2 in
+          omega arith in (
             w,
             takes 0 (Some o),
             f.1,
@@ -129,9 +129,9 @@ module _ {O E S : Type 0} (shows : O → Shown E S) where
       let longer : Leads h.now (shows o) = subst (λ (x : Shown E S). Leads x (shows o)) tn.2 grown in
       let others : (i : ℕ) (u : View E S) → i ≢ id → get_elem? s.views i ≡ some u → u.drawn ≡ true → ¬ (u.ticket ≡ h.finished) = λ i u ne p d t. ne (h.distinct i id u v p at d drawn (t ∙ sym tn.1)) in
       let nobody : ¬ (IsAnyAtTurn (set s.views id w)) = λ far. each_set (λ u. u.turn ≡ true → ⊥) s.views id w
-          (λ t. off t)
-          (λ i u ne p t. let b = (h.each i u p).turn t in others i u ne p b.0 b.1)
-          far.0 far.1 far.2 far.3 in (
+      (λ t. off t)
+      (λ i u ne p t. let b = (h.each i u p).turn t in others i u ne p b.0 b.1)
+      far.0 far.1 far.2 far.3 in (
         w,
         gives,
         tt,

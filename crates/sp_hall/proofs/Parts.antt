@@ -1,12 +1,12 @@
 -- Cutting a view in two and joining two keep the hall's rule.
-use Rattle.std.proofs.Common.{◌≡◌, ◌≢◌, ℕ, ◌+◌, ◌-◌, ◌^◌, ◌<◌, ◌≤◌, List, [], ◌∷◌, ◌++◌, set, Bool, true, false, refl, sym, ap, ◌∙◌, subst, arith, Option, sum_by}
+use Rattle.std.proofs.Common.{◌≡◌, ℕ, ◌^◌, ◌<◌, set, Bool, true, false, refl, sym, ◌∙◌, subst, arith, Option}
 use Rattle.std.specs.Prelude.{slice_index}
 use Rattle.std.proofs.lemmas.List.{set-get_or}
 use mathlib.Core.Option.{some, none}
 use lib.ListN.{get_elem?}
-use Rattle.atomic_table.specs.Table.{State, Me, keeps, step, Allows, Splits, Joins}
+use Rattle.atomic_table.specs.Table.{Me, keeps, step, Allows, Splits, Joins}
 use Rattle.atomic_table.proofs.Lists.{set_else, set_again}
-use Rattle.sp_hall.specs.Rule.{waits, Fits, Ruled, IsAnyAtTurn, left_part, right_part, met, spent_view, Compares}
+use Rattle.sp_hall.specs.Rule.{waits, Fits, Ruled, left_part, right_part, met, spent_view, Compares}
 use Rattle.sp_hall.specs.declared.object.Shown.{Shown}
 use Rattle.sp_hall.specs.declared.seat.View.{View}
 use Rattle.sp_hall.proofs.Draws.{no_wait}
@@ -18,10 +18,10 @@ module _ {O E S : Type 0} (shows : O → Shown E S) where
   compares opened slots id me some_part s h len at fits =
       let same : record { words = set s.words 0 (slice_index s.words 0); homes = s.homes; views = set s.views id me.0 } ≡ s = λ i. record { words = set-get_or s.words 0 0 i; homes = s.homes; views = set_again s.views id me.0 at i } in
       let small : me.0.made < 2 ^ 64 =
-          let a = one_le (λ u. u.made) s.views id me.0 at in
-          let b = h.made in
-          let c = h.small in
-          omega arith in
+      let a = one_le (λ u. u.made) s.views id me.0 at in
+      let b = h.made in
+      let c = h.small in
+      omega arith in
       (me.0, keeps, tt, subst (Ruled shows opened) (sym same) h, (refl, (h.each id me.0 at).short some_part, small))
 
   pub splits : (opened : Shown E S) (id : ℕ) (v : View E S) → 1 < v.parts → Splits (Ruled shows opened) id v (left_part v) (right_part v)
@@ -80,23 +80,23 @@ module _ {O E S : Type 0} (shows : O → Shown E S) where
       let still : w.turn ≡ true → ⊥ = λ t. off (sym idle_w ∙ (theirs.turn t).0) in
       let P = Fits h.drawn h.finished opened h.now in
       let joined : P b =
-          record {
-            ticket = λ d. absurd (off (sym idle ∙ d));
-            turn = λ t. absurd (off (sym idle ∙ (mine.turn t).0));
-            spent = λ z. absurd (omega arith);
-            opened = λ _. mine.opened some_part;
-            seen = λ _. both_before v.seen w.seen h.now (mine.seen some_part) (theirs.seen some_other);
-            short = λ _. longer_begins h.now.list v.seen.list w.seen.list (mine.seen some_part).list (theirs.seen some_other).list;
-          } in
+      record {
+        ticket = λ d. absurd (off (sym idle ∙ d));
+        turn = λ t. absurd (off (sym idle ∙ (mine.turn t).0));
+        spent = λ z. absurd (omega arith);
+        opened = λ _. mine.opened some_part;
+        seen = λ _. both_before v.seen w.seen h.now (mine.seen some_part) (theirs.seen some_other);
+        short = λ _. longer_begins h.now.list v.seen.list w.seen.list (mine.seen some_part).list (theirs.seen some_other).list;
+      } in
       let spent : P e =
-          record {
-            ticket = λ d. absurd (off d);
-            turn = λ t. absurd (off t);
-            spent = λ _. (refl, refl);
-            opened = λ z. absurd (omega arith);
-            seen = λ z. absurd (omega arith);
-            short = λ z. absurd (omega arith);
-          } in
+      record {
+        ticket = λ d. absurd (off d);
+        turn = λ t. absurd (off t);
+        spent = λ _. (refl, refl);
+        opened = λ z. absurd (omega arith);
+        seen = λ z. absurd (omega arith);
+        short = λ z. absurd (omega arith);
+      } in
       let false_turn : e.turn ≡ w.turn = no_turn w.turn still in
       record {
         drawn = h.drawn;

@@ -1,9 +1,9 @@
 -- The hall's rule: word 0 is the tickets drawn, word 1 is the calls finished, and the slot has the object.
-use Rattle.std.specs.Prelude.{◌≡◌, ℕ, ◌+◌, ◌-◌, ◌^◌, ◌<◌, ◌≤◌, List, [], ◌∷◌, Bool, true, false, Option, None, Some, if◌then◌else◌, sum_by}
+use Rattle.std.specs.Prelude.{◌≡◌, ℕ, ◌+◌, ◌-◌, ◌^◌, ◌<◌, ◌≤◌, List, [], ◌∷◌, true, false, Option, None, Some, if◌then◌else◌, sum_by}
 use mathlib.Core.Option.{some, none}
 use lib.ListN.{get_elem?}
 use Rattle.atomic_table.specs.Table.{State, Me, Step}
-use Rattle.sp_hall.specs.States.{Begins, IsCounted, Leads, longer_of, shorter_of, both_of}
+use Rattle.sp_hall.specs.States.{Begins, IsCounted, Leads, shorter_of, both_of}
 use Rattle.sp_hall.specs.declared.object.Shown.{Shown}
 use Rattle.sp_hall.specs.declared.seat.View.{View}
 

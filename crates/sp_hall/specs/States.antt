@@ -1,5 +1,5 @@
 -- What an object shows of itself, from one state to a later one.
-use Rattle.std.specs.Prelude.{◌≡◌, ℕ, ◌+◌, ◌≤◌, List, ◌++◌, length, Option, Some, None, IfSome, if◌then◌else◌, nat_le, max}
+use Rattle.std.specs.Prelude.{◌≡◌, ◌+◌, ◌≤◌, List, ◌++◌, length, Option, Some, None, IfSome, if◌then◌else◌, nat_le, max}
 use Rattle.sp_hall.specs.declared.object.Shown.{Shown}
 
 -- the longer list begins with the shorter, or neither is told

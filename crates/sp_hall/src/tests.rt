@@ -95,11 +95,15 @@ fn start<R: Threads + Wait + Clone + Send + Drop + 'static>(
     let theirs = Arc::try_clone(hall)?;
     let their_rt = rt.clone()?;
     let promise = SamePass(Snapshot::of(&pass));
-    let handle = thread::spawn_with(rt, promise, move || -> Pass<Counter>
-        requires { pass.hall ≡ arc_value theirs }
-        ensures hall { result.hall ≡ pass.hall }
-        ensures parts { result.parts ≡ pass.parts }
-    { call_often(&their_rt, &theirs, pass) })?;
+    let handle = thread::spawn_with(
+        rt,
+        promise,
+        move || -> Pass<Counter>
+            requires { pass.hall ≡ arc_value theirs }
+            ensures hall { result.hall ≡ pass.hall }
+            ensures parts { result.parts ≡ pass.parts }
+        { call_often(&their_rt, &theirs, pass) },
+    )?;
     Ok(handle)
 }
 

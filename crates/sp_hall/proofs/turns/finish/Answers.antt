@@ -1,7 +1,6 @@
 use Rattle.std.proofs.Common.{arith, ◌≡◌, ◌<◌, ◌^◌, ◌∷◌, [], Some, ap, ◌∙◌, sym, subst}
 use Rattle.atomic_table.specs.Table.{rest}
 use Rattle.sp_hall.specs.States.{Leads}
-use Rattle.sp_hall.specs.declared.seat.View.{View}
 use Rattle.sp_hall.proofs.Moves.{finishes}
 use Rattle.sp_hall.proofs.turns.finish.Goals as goal
 

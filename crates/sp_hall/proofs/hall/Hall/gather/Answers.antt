@@ -1,5 +1,4 @@
 use Rattle.std.proofs.Common.{◌≡◌, subst, sym}
-use Rattle.sp_hall.specs.Passes.{Known}
 use Rattle.sp_hall.specs.States.{Leads}
 use Rattle.sp_hall.proofs.Gathering.{Gathers, all_but_last, gathers_none, gathers_more}
 use Rattle.sp_hall.proofs.hall.Hall.gather.Goals as goal
@@ -14,6 +13,6 @@ pub loop-other-preserved : goal.loop-other-preserved
 loop-other-preserved g c =
     let met = c.meet.ensures.met in
     subst (λ p. Gathers c.args.self.now c.args.pass.now c.args.others.items p c.pop.new.self.items) (sym met)
-        (gathers_more _ _ _ _ _ _ _ c.loop-other.invariant c.in-Some.ensures.items
-        (subst (λ p. Leads c.loop-other.pass.seen p.seen) met c.meet.ensures.later)
-        (subst (λ p. Leads c.in-Some.other.seen p.seen) met c.meet.ensures.other))
+    (gathers_more _ _ _ _ _ _ _ c.loop-other.invariant c.in-Some.ensures.items
+    (subst (λ p. Leads c.loop-other.pass.seen p.seen) met c.meet.ensures.later)
+    (subst (λ p. Leads c.in-Some.other.seen p.seen) met c.meet.ensures.other))

@@ -1,4 +1,4 @@
-use Rattle.std.proofs.Common.{arith, ap, ◌∙◌, sym, ◌≡◌, ◌<◌, subst}
+use Rattle.std.proofs.Common.{arith, ap, ◌∙◌, sym}
 use Rattle.sp_hall.proofs.Parts.{joins, compares}
 use Rattle.sp_hall.proofs.hall.Hall.meet.Goals as goal
 
