@@ -1,4 +1,4 @@
-ghost use Rattle.std.specs.Prelude.{◌≡◌, ◌<◌, ◌^◌, ◌+◌, [], ◌∷◌, false, true, Some, None, All, sum_by, IfOk, IfErr, OnOk, OnErr};
+ghost use Rattle.std.specs.Prelude.{◌≡◌, ◌<◌, ◌≤◌, ◌^◌, ◌+◌, [], ◌∷◌, false, true, Some, None, All, sum_by, IfOk, IfErr, OnOk, OnErr};
 ghost use Rattle.sp_hall.specs.Seats.{IsHallTable, IsLast};
 ghost use Rattle.sp_hall.specs.Passes.{first_pass, new_pass, left_pass, met_pass, all_parts, HasTurn};
 ghost use Rattle.sp_hall.specs.Rule.{opening_view};
@@ -18,6 +18,8 @@ use std::sync::Wait;
 type TableOf<O> = Table<Option<O>, ViewOf<O>, Snapshot<O>, HallRule<O>, Global>;
 
 /// One object, shared by turns among threads.
+///
+/// Each call and each change of a pass asks for passes of this hall. The hall keeps its allocator.
 #[derive(Drop)]
 pub struct Hall<O: Object> {
     table: TableOf<O>,
@@ -36,7 +38,8 @@ impl<O: Object> Model for Hall<O> {
 }
 
 impl<O: Object> Hall<O> {
-    /// The hall of an object, and its first pass. Without memory the object comes back.
+    /// The hall of an object, and its first pass, which has all parts and has seen the object as it is. Without memory
+    /// the object comes back.
     pub fn new(alloc: Global, object: O) -> Result<(Hall<O>, Pass<O>), (O, Memory)>
         ensures hall { IfOk result (λ r. r.0.opened ≡ O.shows object) }
         ensures pass { IfOk result (λ r. r.1 ≡ first_pass r.0) }
@@ -44,19 +47,15 @@ impl<O: Object> Hall<O> {
     {
         let seen = object.count();
         match open_table(alloc, object) {
-            Ok((table, seat)) => Ok((
-                Hall { table },
-                Pass {
-                    seat,
-                    seen,
-                    made: 0,
-                },
-            )),
+            Ok((table, seat)) => Ok((Hall { table }, Pass::fresh(seat, seen))),
             Err(object) => Err((object, Memory)),
         }
     }
 
-    /// Waits for its turn, and gives the object's reply. A call that comes after 2^62 others waits for ever.
+    /// Waits for its turn, and gives the object's reply, in a state in which the object was no earlier than the pass had
+    /// seen it. Then the pass has seen it as the call left it.
+    ///
+    /// The turn may never come. After 2^62 calls of the hall it doesn't. The call takes no memory but what `act` takes.
     pub fn call<R: Wait>(&self, rt: &R, pass: &mut Pass<O>, ask: O::Ask) -> O::Reply
         requires hall { pass.old.hall ≡ self.now }
         ensures hall { pass.new.hall ≡ pass.old.hall }
@@ -79,23 +78,21 @@ impl<O: Object> Hall<O> {
         reply
     }
 
-    /// A pass with one of this pass's parts. It has seen as much, and has made nothing.
+    /// A new pass with one of this pass's parts, which has to have two or more. It has seen as much, and has made nothing.
+    /// Without memory nothing changes. Today a split takes none.
     pub fn split(&self, pass: &mut Pass<O>) -> Result<Pass<O>, Memory>
         requires hall { pass.old.hall ≡ self.now }
-        requires parts { 1 < pass.old.parts }
+        requires parts { 2 ≤ pass.old.parts }
         ensures given { IfOk result (λ p. p ≡ new_pass pass.old) }
         ensures left { OnOk result (pass.new ≡ left_pass pass.old) }
         ensures memory { OnErr result (pass.new ≡ pass.old) }
     {
         let seat = self.table.shared.split_seat::<OnePart>(&mut pass.seat);
-        Ok(Pass {
-            seat,
-            seen: pass.seen,
-            made: 0,
-        })
+        Ok(Pass::fresh(seat, pass.seen))
     }
 
-    /// Takes another pass of the hall into this one.
+    /// Takes another pass into this one, which then has the parts of both, has seen what either has seen, and has made
+    /// what both made. It takes no memory.
     pub fn meet(&self, pass: &mut Pass<O>, other: Pass<O>)
         requires hall { pass.old.hall ≡ self.now }
         requires other { other.hall ≡ self.now }
@@ -110,7 +107,8 @@ impl<O: Object> Hall<O> {
         pass.made += made;
     }
 
-    /// Ends the hall and gives the object back, once all passes are there. Without memory all come back.
+    /// Ends the hall and gives the object back. The passes have to be all that are left: their parts make 2^62.
+    /// Without memory the hall and the passes come back. Today a close takes none.
     pub fn close(self, mut passes: Vec<Pass<O>>) -> Result<O, (Hall<O>, Vec<Pass<O>>, Memory)>
         requires hall { All (λ p. p.hall ≡ self) passes.items }
         requires all { sum_by (λ p. p.parts) passes.items ≡ all_parts }
@@ -133,7 +131,7 @@ impl<O: Object> Hall<O> {
         Ok(close_table(table, seat))
     }
 
-    /// Takes other passes of the hall into this one.
+    /// Takes other passes into this one.
     fn gather(&self, pass: &mut Pass<O>, mut others: Vec<Pass<O>>)
         requires hall { pass.old.hall ≡ self.now }
         requires others { All (λ p. p.hall ≡ self.now) others.items }

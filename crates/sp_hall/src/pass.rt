@@ -1,11 +1,15 @@
 ghost use Rattle.std.specs.Prelude.{◌≡◌};
+ghost use Rattle.sp_hall.specs.Seats.{known_of, IsAtRest};
 ghost use Rattle.sp_hall.specs.States.{IsCounted, Leads};
 
 use crate::object::Object;
 use crate::seat::SeatOf;
 use std::marker::Model;
 
-/// What a caller shows to a hall, and keeps of it. It is a pass of one hall.
+/// The right to call the object of one hall, and what its holder knows of that object.
+///
+/// A pass has seen the object in some state: its count, its faults and its list as far as it went, which is the front of
+/// the pass. It has made as much as its own calls raised the count. All passes of a hall together have 2^62 parts.
 #[derive(Drop)]
 pub struct Pass<O: Object> {
     pub(crate) seat: SeatOf<O>,
@@ -26,7 +30,19 @@ impl<O: Object> Model for Pass<O> {
 }
 
 impl<O: Object> Pass<O> {
-    /// The count last seen.
+    /// The pass of a seat that has made nothing.
+    pub(crate) fn fresh(seat: SeatOf<O>, seen: u64) -> Pass<O>
+        requires { IsAtRest seat.me seen 0 }
+        ensures { result ≡ known_of seat.table_id seat.me.0 }
+    {
+        Pass {
+            seat,
+            seen,
+            made: 0,
+        }
+    }
+
+    /// The count that was seen last.
     pub fn seen(&self) -> u64
         ensures count { result ≡ self.now.seen.count }
         ensures counted { IsCounted self.now.seen }
@@ -35,7 +51,7 @@ impl<O: Object> Pass<O> {
         self.seen
     }
 
-    /// By how much this pass's own calls raised the count.
+    /// By how much the pass's own calls raised the count.
     pub fn made(&self) -> u64
         ensures { result ≡ self.now.made }
     {
