@@ -112,7 +112,7 @@ module _ {O E S : Type 0} (shows : O → Shown E S) where
   same_object : (o o' : O) → Some o ≡ Some o' → o ≡ o'
   same_object o o' e = cc
 
-  pub finishes : (opened : Shown E S) (slots id : ℕ) (me : Me (Option O) (View E S)) (o : O) → me.0.drawn ≡ true → me.0.turn ≡ true → 0 < me.0.parts → me.0.ticket < 2 ^ 62
+  finishes : (opened : Shown E S) (slots id : ℕ) (me : Me (Option O) (View E S)) (o : O) → me.0.drawn ≡ true → me.0.turn ≡ true → 0 < me.0.parts → me.0.ticket < 2 ^ 62
       → me.1 ≡ (0, Some o) ∷ [] → Leads me.0.base (shows o) → IsCounted (shows o) → (shows o).count < 2 ^ 64 → slots ≡ 1
       → Allows (Ruled shows opened) slots id me 1 (λ n. (n + 1) % 2 ^ 64) (Finishes shows (step slots 1 1 0 none) me)
   finishes opened slots id me o drawn turn some_part early carries grown counted small one s h len at fits =
@@ -178,3 +178,13 @@ module _ {O E S : Type 0} (shows : O → Shown E S) where
         },
         λ o' e'. let q = same_object o o' (ap held (sym carries ∙ e')) in (ap (λ x. after_call v (shows x)) q, ap rest carries),
       )
+
+  -- the same of a seat that has put the object into the slot
+  pub finishes_put : (opened : Shown E S) (slots id : ℕ) (me put : Me (Option O) (View E S)) (o : O) → me.0.drawn ≡ true → me.0.turn ≡ true → 0 < me.0.parts → me.0.ticket < 2 ^ 62
+      → me.1 ≡ (0, None) ∷ [] → put ≡ (me.0, (0, Some o) ∷ rest me.1) → Leads me.0.base (shows o) → IsCounted (shows o) → (shows o).count < 2 ^ 64 → slots ≡ 1
+      → Allows (Ruled shows opened) slots id put 1 (λ n. (n + 1) % 2 ^ 64) (Finishes shows (step slots 1 1 0 none) put)
+  finishes_put opened slots id me put o drawn turn some_part early empty is grown counted small one =
+      let full : Me (Option O) (View E S) = (me.0, (0, Some o) ∷ []) in
+      let same : put ≡ full = is ∙ ap (λ (c : List (ℕ × Option O)). (me.0, (0, Some o) ∷ rest c)) empty in
+      subst (λ (m : Me (Option O) (View E S)). Allows (Ruled shows opened) slots id m 1 (λ n. (n + 1) % 2 ^ 64) (Finishes shows (step slots 1 1 0 none) m)) (sym same)
+      (finishes opened slots id full o drawn turn some_part early refl grown counted small one)
