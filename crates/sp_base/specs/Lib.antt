@@ -3,3 +3,4 @@ pub mod Devices
 pub mod Name
 pub mod Refusal
 pub mod Rows
+pub mod Topic

@@ -1,5 +1,5 @@
-//! What every other crate of the spool stands on: names, numbers, moments, refusals, texts and
-//! lists that contracts see as what they hold, and the streams that a run reads and writes.
+//! What every other crate of the spool stands on: names, topics, numbers, moments, refusals, texts
+//! and lists that contracts see as what they hold, and the streams that a run reads and writes.
 #![tactic(auto)]
 
 pub mod bytes;
@@ -17,3 +17,4 @@ pub mod steady_io;
 #[cfg(test)]
 mod tests;
 pub mod text;
+pub mod topic;

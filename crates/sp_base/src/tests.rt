@@ -9,6 +9,7 @@ use crate::real_io::{ReaderSource, WriterSink};
 use crate::rows::Rows;
 use crate::steady_io::{NullSink, SteadySource};
 use crate::text::Str;
+use crate::topic::{Topic, TopicError};
 use std::test::Fail;
 
 #[test]
@@ -28,6 +29,36 @@ fn which_bytes_are_names(rt: HostRuntime) -> Result<(), Fail> {
     ] {
         assert_eq!(rt; Name::read(alloc, bytes).is_ok(), is_one);
     }
+    Ok(())
+}
+
+#[test]
+fn which_bytes_are_topics(rt: HostRuntime) -> Result<(), Fail> {
+    let alloc = rt.alloc();
+    let longest = vec![in alloc; b'x'; 250]?;
+    let too_long = vec![in alloc; 0xff; 251]?;
+    let deepest = vec![in alloc; b'/'; 127]?;
+    let too_deep = vec![in alloc; b'/'; 128]?;
+    for (bytes, fault) in [
+        (&b"orders/new"[..], None),
+        (&b"//a/"[..], None),
+        (&b"caf\xc3\xa9/*/>"[..], None),
+        (longest.as_slice(), None),
+        (deepest.as_slice(), None),
+        (&b""[..], Some(0)),
+        (too_long.as_slice(), Some(250)),
+        (&b"a/\xc3"[..], Some(2)),
+        (too_deep.as_slice(), Some(127)),
+    ] {
+        let found = match Topic::read(alloc, bytes) {
+            Ok(_) => None,
+            Err(TopicError::Bad { at }) => Some(at),
+            Err(TopicError::Memory) => Some(1000),
+        };
+        assert_eq!(rt; found, fault);
+    }
+    let topic = Topic::read(alloc, b"a/b")?;
+    assert!(rt; topic.copy(alloc)?.same(&topic));
     Ok(())
 }
 

@@ -1,0 +1,4 @@
+pub mod Fields
+pub mod Op
+pub mod Outcome
+pub mod Request
