@@ -1,0 +1,5 @@
+pub mod Halls
+pub mod Passes
+pub mod Rule
+pub mod Seats
+pub mod States
