@@ -1,3 +1,6 @@
 pub mod Cuts
+pub mod Entries
 pub mod Matches
+pub mod Searches
 pub mod SubscriptionFaults
+pub mod Taken

@@ -5,3 +5,4 @@
 mod matching;
 pub mod subscription;
 pub mod subscriptions;
+pub mod tree;
