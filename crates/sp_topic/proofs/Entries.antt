@@ -34,12 +34,13 @@ same_pair e f s t h =
 -- a pair that is there is not added again
 pub pair_there : (tree : Entries) (e : ℕ) (t : List ℕ) → has_pair tree e t ≡ true → AddsPair tree tree e t
 pair_there tree e t h endpoint text =
-    elim (cases_Bool (e == endpoint && bytes_eq t text))
-    [ inl same ↦
-        let parts = same_pair e endpoint t text same in
-        let there : has_pair tree endpoint text ≡ true = rw (← parts.0, ← parts.1) h in
-        there ∙ sym (or_left (has_pair tree endpoint text) (e == endpoint && bytes_eq t text) there)
-    | inr other ↦ sym (ap (λ b. has_pair tree endpoint text || b) other ∙ or_false (has_pair tree endpoint text)) ]
+    elim (cases_Bool (e == endpoint && bytes_eq t text)) [
+      | inl same ↦
+          let parts = same_pair e endpoint t text same in
+          let there : has_pair tree endpoint text ≡ true = rw (← parts.0, ← parts.1) h in
+          there ∙ sym (or_left (has_pair tree endpoint text) (e == endpoint && bytes_eq t text) there)
+      | inr other ↦ sym (ap (λ b. has_pair tree endpoint text || b) other ∙ or_false (has_pair tree endpoint text))
+    ]
 
 pub and_comm : (a b : Bool) → (a && b) ≡ (b && a)
 and_comm true true = refl

@@ -1,5 +1,6 @@
 pub mod Cuts
 pub mod Entries
+pub mod Examples
 pub mod Matches
 pub mod Searches
 pub mod SubscriptionFaults

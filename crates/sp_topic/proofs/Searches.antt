@@ -55,13 +55,15 @@ list_any-from_Contains xs n h = list_any_at (λ m. m == n) xs h.0 n h.1 (eq-eqb 
 none_passes : {X : Type 0} (p : X → Bool) (xs : List X) → length xs ≤ position_or_len p xs → list_any p xs ≡ false
 none_passes p [] h = refl
 none_passes p (x ∷ xs) h =
-    elim (p x) as (λ t. suc (length xs) ≤ cond (not t) (1 + position_or_len p xs) 0 → (t || list_any p xs) ≡ false)
-    [ true ↦ λ h. absurd (omega arith)
-    | false ↦ λ h. none_passes p xs (omega arith) ] h
+    elim (p x) as (λ t. suc (length xs) ≤ cond (not t) (1 + position_or_len p xs) 0 → (t || list_any p xs) ≡ false) [
+      | true ↦ λ h. absurd (omega arith)
+      | false ↦ λ h. none_passes p xs (omega arith)
+    ] h
 
 -- where an element passes, one is found
 pub position_is_there : {X : Type 0} (p : X → Bool) (xs : List X) → list_any p xs ≡ true → position p xs ≡ None → ⊥
 position_is_there p xs some none =
-    elim (cases_Bool (nat_lt (position_or_len p xs) (length xs)))
-    [ inl within ↦ cc (cond-true (nat_lt (position_or_len p xs) (length xs)) (Some (position_or_len p xs)) None within)
-    | inr past ↦ true≢false (sym some ∙ none_passes p xs (ltb-false _ _ past)) ]
+    elim (cases_Bool (nat_lt (position_or_len p xs) (length xs))) [
+      | inl within ↦ cc (cond-true (nat_lt (position_or_len p xs) (length xs)) (Some (position_or_len p xs)) None within)
+      | inr past ↦ true≢false (sym some ∙ none_passes p xs (ltb-false _ _ past))
+    ]

@@ -36,9 +36,10 @@ subscription_some (byte ∷ rest) h = omega arith
 
 pub subscription_bound : (text : List ℕ) → IsSubscription text → length text ≤ 251
 subscription_bound text h =
-    elim (cases_Bool (is_exception text))
-    [ inl marked ↦
-        let parts = exception-parts text marked in
-        let rest = topic_bound (drop 1 text) (no_fault _ (sym (fault_exception (drop 1 text)) ∙ ap subscription_fault (sym parts) ∙ h)) in
-        omega (arith, rest, ap length parts)
-    | inr plain ↦ let whole = topic_bound text (sym (fault_plain text plain) ∙ h) in omega (arith, whole) ]
+    elim (cases_Bool (is_exception text)) [
+      | inl marked ↦
+          let parts = exception-parts text marked in
+          let rest = topic_bound (drop 1 text) (no_fault _ (sym (fault_exception (drop 1 text)) ∙ ap subscription_fault (sym parts) ∙ h)) in
+          omega (arith, rest, ap length parts)
+      | inr plain ↦ let whole = topic_bound text (sym (fault_plain text plain) ∙ h) in omega (arith, whole)
+    ]

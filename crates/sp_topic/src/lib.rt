@@ -5,4 +5,6 @@
 mod matching;
 pub mod subscription;
 pub mod subscriptions;
+#[cfg(test)]
+mod tests;
 pub mod tree;

@@ -80,7 +80,11 @@ impl Tree {
 
     /// Puts a subscription of an endpoint in. With room reserved for the subscription it takes no
     /// memory. Without memory the tree holds what it held.
-    pub fn insert(&mut self, endpoint: EndpointNo, subscription: &Subscription) -> Result<(), AllocError>
+    pub fn insert(
+        &mut self,
+        endpoint: EndpointNo,
+        subscription: &Subscription,
+    ) -> Result<(), AllocError>
         ensures ok { OnOk result (AddsPair self.old self.new endpoint subscription.now) }
         ensures err { OnErr result (SamePairs self.old self.new) }
         ensures prepared { has_room self.old subscription.now ≡ true → IsOk result }
