@@ -1,8 +1,8 @@
 -- Where a text is cut behind its first level.
-use Rattle.std.proofs.Common.{◌≡◌, ◌∙◌, ◌+◌, ◌<◌, ◌≤◌, ℕ, suc, inl, inr, true, false, not, cond, List, [], ◌∷◌, length, take, drop, refl, sym, ap, arith, Some, None}
+use Rattle.std.proofs.Common.{◌≡◌, ◌+◌, ◌≤◌, ℕ, suc, inl, inr, true, false, not, cond, List, [], ◌∷◌, length, take, drop, refl, ap, arith, Some, None}
 use Rattle.std.specs.Prelude.{◌==◌, nat_lt, position}
-use Rattle.std.specs.List.{slice_split, onto_first, position_or_len}
-use Rattle.std.proofs.lemmas.Bool.{ltb-true, ltb-false, lt-ltb, cond-true, cond-false, cases_Bool}
+use Rattle.std.specs.List.{onto_first, position_or_len}
+use Rattle.std.proofs.lemmas.Bool.{ltb-true, ltb-false, cond-true, cond-false, cases_Bool}
 use Rattle.std.proofs.lemmas.List.Splits.{slice_split_first}
 use Rattle.sp_base.specs.Topic.{levels}
 

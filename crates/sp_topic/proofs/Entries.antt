@@ -1,5 +1,5 @@
 -- What a change of the lists does to the pairs and the room of a tree.
-use Rattle.std.proofs.Common.{◌≡◌, ◌≢◌, ◌∙◌, ◌+◌, ◌<◌, ℕ, inl, inr, Some, Bool, true, false, not, ◌&&◌, ◌||◌, List, [], ◌∷◌, ◌++◌, length, get_or, refl, sym, ap}
+use Rattle.std.proofs.Common.{◌≡◌, ◌≢◌, ◌∙◌, ℕ, inl, inr, Some, Bool, true, false, not, ◌&&◌, ◌||◌, List, [], ◌∷◌, ◌++◌, get_or, refl, sym, ap}
 use Rattle.std.specs.Prelude.{◌==◌, bytes_eq, filter, position}
 use Rattle.std.specs.List.{list_any, remove}
 use Rattle.std.specs.Cmp.Lexicographic.{same_text, bytes_decides}

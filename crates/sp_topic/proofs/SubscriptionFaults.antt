@@ -1,6 +1,5 @@
 -- The reasons for which bytes are no subscription.
 use Rattle.std.proofs.Common.{◌≡◌, ◌∙◌, ◌+◌, ◌<◌, ◌≤◌, ℕ, inl, inr, true, false, List, [], ◌∷◌, length, drop, refl, sym, ap, arith, Some, None, Option}
-use Rattle.std.specs.Prelude.{◌==◌}
 use Rattle.std.specs.Option.{option_map}
 use Rattle.std.proofs.lemmas.Bool.{cond-false, cases_Bool, eqb-true}
 use Rattle.sp_base.specs.Topic.{topic_fault}

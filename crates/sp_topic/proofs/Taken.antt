@@ -1,9 +1,9 @@
 -- Which endpoints are left of those that a topic selects.
-use Rattle.std.proofs.Common.{◌≡◌, ◌↔◌, ◌∙◌, ◌<◌, ℕ, Bool, true, false, not, ◌&&◌, List, get_or, refl, sym, ap, eqb}
+use Rattle.std.proofs.Common.{◌≡◌, ◌↔◌, ◌∙◌, ℕ, Bool, true, false, not, ◌&&◌, List, get_or, refl, sym, ap, eqb}
 use Rattle.std.specs.Prelude.{◌==◌, bytes_eq, filter, IsPermutation, IsTrue, Contains}
 use Rattle.std.specs.List.{list_any, dedup}
 use Rattle.std.specs.Cmp.Lexicographic.{same_text, bytes_decides}
-use Rattle.std.proofs.lemmas.Bool.{eqb-true, cases_Bool}
+use Rattle.std.proofs.lemmas.Bool.{eqb-true}
 use Rattle.std.proofs.lemmas.List.Folds.{list_any_at, Any-from_list_any}
 use Rattle.std.proofs.lemmas.List.Kept.{Contains-dedup_nat, Contains-from_dedup}
 use Rattle.std.proofs.lemmas.List.Sorted.{list_any-IsPermutation}

@@ -25,8 +25,8 @@ pub enum AddError {
     Memory,
 }
 
-/// The subscriptions of one endpoint, in the order in which they were added: at most 100, each
-/// with a text of its own. Contracts see their texts, and the room that is reserved for more.
+/// The subscriptions of one endpoint, in the order in which they were added: at most 100, of which
+/// none is added twice. Contracts see their texts, and the room that is reserved for more.
 #[derive(Debug, Drop)]
 pub struct Subscriptions {
     rows: Vec<Subscription>,
@@ -94,8 +94,8 @@ impl Subscriptions {
         ensures exists { (result ≡ Err AddError.Exists) ↔ (has_text self.old.items subscription ≡ true) }
         ensures full { (result ≡ Err AddError.Full) ↔ ((has_text self.old.items subscription ≡ false) × (length self.old.items ≡ 100)) }
         ensures memory { result ≡ Err AddError.Memory → self.old.room ≡ 0 }
-        ensures room { OnErr result (self.old.room ≤ self.new.room) }
-        ensures row { self.old.room ≤ self.new.room + 1 }
+        ensures spent { self.old.room ≤ self.new.room + 1 }
+        ensures unspent { OnErr result (self.old.room ≤ self.new.room) }
     {
         if self.has(&subscription) {
             return Err(AddError::Exists);

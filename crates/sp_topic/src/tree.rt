@@ -61,7 +61,7 @@ impl Tree {
     }
 
     /// Makes room, so that the next `insert` of the subscription takes no memory, for whichever
-    /// endpoint. The tree holds what it held.
+    /// endpoint. The tree holds what it held, and what was reserved before stays reserved.
     pub fn reserve(&mut self, subscription: &Subscription) -> Result<(), AllocError>
         ensures pairs { SamePairs self.old self.new }
         ensures room { OnOk result (has_room self.new subscription.now ≡ true) }

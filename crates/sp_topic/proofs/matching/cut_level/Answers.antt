@@ -1,4 +1,4 @@
-use Rattle.std.proofs.Common.{◌≡◌, ◌∙◌, ◌+◌, length, drop, sym, ap}
+use Rattle.std.proofs.Common.{sym}
 use Rattle.std.proofs.lemmas.List.{take_rest}
 use Rattle.sp_topic.proofs.Cuts.{levels-no_slash, levels-slash_at}
 use Rattle.sp_topic.proofs.matching.cut_level.Goals as goal

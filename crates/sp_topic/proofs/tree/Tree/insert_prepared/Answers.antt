@@ -1,5 +1,5 @@
-use Rattle.std.proofs.Common.{◌≡◌, ◌∙◌, sym, ap, Some}
-use Rattle.std.specs.Prelude.{bytes_eq, position}
+use Rattle.std.proofs.Common.{◌≡◌, ◌∙◌, sym}
+use Rattle.std.specs.Prelude.{bytes_eq}
 use Rattle.sp_topic.specs.Tree.{has_room}
 use Rattle.sp_topic.proofs.Searches.{position_is_there}
 use Rattle.sp_topic.proofs.Entries.{found_text, pairs_pushed, room_removed}
