@@ -1,0 +1,5 @@
+pub mod Counts
+pub mod History
+pub mod Inside
+pub mod Kept
+pub mod Sound

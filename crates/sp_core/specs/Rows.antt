@@ -1,0 +1,19 @@
+-- The ledger's entries that the core's rows stand for.
+use Rattle.sp_core.specs.declared.rows.Endpoint.{Endpoint}
+use Rattle.sp_core.specs.declared.rows.Published.{Published}
+use Rattle.sp_core.specs.declared.rows.Next.{Next}
+use Rattle.sp_core.specs.declared.rows.Numbers.{Numbers}
+use Rattle.sp_ledger.specs.Ledger as ledger
+
+abbrev pub endpoint_row : Endpoint → ledger.Endpoint
+endpoint_row e = record { number = e.number; name = e.name }
+
+abbrev pub message_row : Published → ledger.Published
+message_row m = record { number = m.number; message = m.message; moment = m.moment }
+
+abbrev pub next_row : Next → ledger.Next
+next_row n = record { endpoint = n.endpoint; message = n.message; flow = n.flow; replay = n.replay; unit = n.unit }
+
+-- the ledger without entries whose next numbers are these
+abbrev pub empty_at : Numbers → ledger.Ledger
+empty_at n = ledger.empty_ledger (record { endpoint = n.endpoint; message = n.message; flow = n.flow; replay = n.replay; unit = n.unit }) n.copy

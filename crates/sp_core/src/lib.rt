@@ -1,0 +1,10 @@
+//! The state machine of the spool: it decides a unit of events and takes all memory for it, then
+//! carries it out, and it answers queries.
+#![tactic(auto)]
+
+pub mod errors;
+mod look;
+pub mod plan;
+pub mod ready;
+pub mod rows;
+pub mod state;

@@ -1,0 +1,146 @@
+ghost use Rattle.std.specs.Prelude.{◌≡◌, ◌≤◌, ◌<◌, ◌+◌, ◌-◌, ◌^◌, ℕ, ◌∷◌, [], IfOk, OnOk, OnErr, is_some, Some, length, IfErr};
+ghost use Rattle.std.specs.Option.{option_copied, option_map};
+ghost use Rattle.sp_copies.specs.History.{used_bytes};
+ghost use Rattle.sp_core.specs.Decided.{IsPrepared, ReadyState};
+ghost use Rattle.sp_core.specs.Errors.{OnRefused, OnUnanswered};
+ghost use Rattle.sp_core.specs.Plan.{unit_of};
+ghost use Rattle.sp_core.specs.Rows.{endpoint_row, empty_at};
+ghost use Rattle.sp_core.specs.Stands.{Stands, IsRoomier};
+ghost use Rattle.sp_ledger.specs.Ledger.{Ledger, named, used_of};
+ghost use Rattle.sp_ledger.specs.Outcome.{refused};
+ghost use Rattle.sp_ledger.specs.Step.{unit_step};
+
+use crate::errors::PrepareError;
+use crate::look::find_endpoint;
+use crate::ready::Ready;
+use crate::rows::{Endpoint, Next, Numbers, Published};
+use sp_base::failure::Memory;
+use sp_base::moment::Moment;
+use sp_base::name::Name;
+use sp_base::rows::Rows;
+use sp_copies::copies::Copies;
+use sp_event::answer::Reply;
+use sp_event::request::Event;
+use std::alloc::Global;
+use std::marker::Model;
+
+mod apply;
+mod provision;
+mod publish;
+mod query;
+
+/// The spool's state.
+#[derive(Drop)]
+pub struct Core {
+    endpoints: Rows<Endpoint>,
+    messages: Rows<Published>,
+    copies: Copies,
+    next: Next,
+    clock: Moment,
+}
+
+impl Model for Core {
+    ghost use Rattle.sp_core.specs.State.{CoreState, ledger_of};
+    ghost use Rattle.sp_ledger.specs.Sound.{IsSound};
+
+    ghost Value = { CoreState };
+
+    ghost use Rattle.sp_core.specs.Inside.{core_state};
+
+    ghost view = { core_state };
+
+    ghost invariant = { λ c. IsSound (ledger_of (core_state c)) };
+}
+
+impl Core {
+    /// The state of a spool that has done nothing yet. Its next numbers are those of `start`.
+    pub fn new(alloc: Global, start: Numbers) -> Result<Core, Memory>
+        requires least { (1 ≤ start.endpoint) × (1 ≤ start.message) × (1 ≤ start.copy) × (1 ≤ start.flow) × (1 ≤ start.replay) × (1 ≤ start.unit) }
+        requires most { (start.endpoint ≤ 2 ^ 62) × (start.message ≤ 2 ^ 62) × (start.copy ≤ 2 ^ 61 + 1) × (start.flow ≤ 2 ^ 62) × (start.replay ≤ 2 ^ 62) × (start.unit ≤ 2 ^ 62) }
+        ensures { IfOk result (λ core. Stands core (empty_at start)) }
+    {
+        Ok(Core {
+            endpoints: Rows::new(alloc),
+            messages: Rows::new(alloc),
+            copies: Copies::new(alloc, start.copy),
+            next: Next {
+                endpoint: start.endpoint,
+                message: start.message,
+                flow: start.flow,
+                replay: start.replay,
+                unit: start.unit,
+            },
+            clock: Moment::START,
+        })
+    }
+
+    /// Decides a unit of one event of a caller at a moment, and takes all the memory that it
+    /// needs. The core stands for the same ledgers as before, with memory or without, and what
+    /// was prepared before stays prepared. Refused exactly where the step of the ledger is, with
+    /// its refusal and index 0.
+    pub fn prepare(
+        &mut self,
+        alloc: Global,
+        now: Moment,
+        from: &Name,
+        unit: &[Event],
+    ) -> Result<Ready, PrepareError>
+        requires { length unit.now ≡ 1 }
+        ensures same { IsRoomier self.old self.new }
+        ensures still { (r : ReadyState) → IsPrepared self.old r → IsPrepared self.new r }
+        ensures ready { IfOk result (λ r. IsPrepared self.new r) }
+        ensures request { IfOk result (λ r. (r.moment ≡ now) × (r.caller ≡ from.now) × (unit_of r.plan ≡ unit.now)) }
+        ensures refused { IfErr result (λ e. OnRefused e (λ refusal.
+            (L : Ledger) → Stands self.old L → unit_step now from.now unit.now L ≡ refused refusal)) }
+    {
+        self.prepare_event(alloc, now, from, unit)
+    }
+
+    fn prepare_event(
+        &mut self,
+        alloc: Global,
+        now: Moment,
+        from: &Name,
+        unit: &[Event],
+    ) -> Result<Ready, PrepareError>
+        requires { length unit.now ≡ 1 }
+        ensures same { IsRoomier self.old self.new }
+        ensures ready { IfOk result (λ r. IsPrepared self.new r) }
+        ensures request { IfOk result (λ r. (r.moment ≡ now) × (r.caller ≡ from.now) × (unit_of r.plan ≡ unit.now)) }
+        ensures refused { IfErr result (λ e. OnRefused e (λ refusal.
+            (L : Ledger) → Stands self.old L → unit_step now from.now unit.now L ≡ refused refusal)) }
+    {
+        match &unit[0] {
+            Event::Provision { endpoint } => self.prepare_provision(alloc, now, from, endpoint),
+            Event::Publish { message } => self.prepare_publish(alloc, now, from, message),
+        }
+    }
+
+    /// How many units there are.
+    pub fn units(&self) -> u64
+        ensures { (L : Ledger) → Stands self.now L → result ≡ L.next.unit - 1 }
+    {
+        self.next.unit.saturating_sub(1)
+    }
+
+    /// The bytes that an endpoint's spooled copies use. None exactly where no endpoint has the
+    /// name.
+    pub fn used(&self, name: &Name) -> Option<u64>
+        ensures { (L : Ledger) → Stands self.now L → result ≡ used_of L name.now }
+    {
+        let found = self.find(name)?;
+        Some(self.copies.used(found.number))
+    }
+
+    fn find(&self, name: &Name) -> Option<&Endpoint>
+        ensures { (L : Ledger) → Stands self.now L → option_map endpoint_row (option_copied result) ≡ named name.now L.endpoints }
+    {
+        find_endpoint(self.endpoints.as_slice(), name)
+    }
+
+    fn next_unit(&self) -> u64
+        ensures { (L : Ledger) → Stands self.now L → result ≡ L.next.unit }
+    {
+        self.next.unit
+    }
+}

@@ -1,0 +1,18 @@
+-- What reading a line answers.
+use Rattle.std.specs.Prelude.{◌≡◌, ℕ, List, Result, Ok, Err}
+use Rattle.sp_event.specs.declared.request.Ask.{Ask}
+use Rattle.sp_flowline.specs.declared.read.ReadError.{ReadError}
+use Rattle.sp_flowline.specs.declared.read.ReadError.TheVariants.{Refused, Memory}
+use Rattle.sp_flowline.specs.Request.{Reading, request, refused, IsReadAs}
+
+-- the request or the refusal of the reading; want of memory may always come
+abbrev pub Gives : Reading → Result Ask ReadError → Type 0
+Gives r (Ok ask) = r ≡ request ask
+Gives r (Err (Refused refusal)) = r ≡ refused refusal
+Gives r (Err Memory) = Unit {0}
+
+-- the line is read as that request or refusal
+abbrev pub Reads : List ℕ → Result Ask ReadError → Type 0
+Reads line (Ok ask) = IsReadAs line (request ask)
+Reads line (Err (Refused refusal)) = IsReadAs line (refused refusal)
+Reads line (Err Memory) = Unit {0}

@@ -1,0 +1,5 @@
+pub mod Decisions
+pub mod Fates
+pub mod Growth
+pub mod Soundness
+pub mod Tallies

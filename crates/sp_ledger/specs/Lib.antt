@@ -1,0 +1,10 @@
+pub mod Answer
+pub mod Balance
+pub mod Checks
+pub mod Extends
+pub mod Ledger
+pub mod Outcome
+pub mod Provision
+pub mod Publish
+pub mod Sound
+pub mod Step

@@ -1,0 +1,18 @@
+-- What each event does to the ledger, and what it is answered.
+use Rattle.std.specs.Prelude.{ℕ, List, [], ◌∷◌}
+use Rattle.sp_event.specs.declared.request.Event.{Event}
+use Rattle.sp_event.specs.declared.request.Event.TheVariants.{Provision, Publish}
+use Rattle.sp_ledger.specs.Ledger.{Ledger}
+use Rattle.sp_ledger.specs.Outcome.{Outcome, idle}
+use Rattle.sp_ledger.specs.Provision.{provision_step}
+use Rattle.sp_ledger.specs.Publish.{publish_step}
+
+-- what one event of a caller comes to, at a moment
+abbrev pub step : ℕ → List ℕ → Event → Ledger → Outcome
+step moment caller (Provision name) L = provision_step moment name L
+step moment caller (Publish m) L = publish_step moment m L
+
+-- the same for a unit, which has one event
+abbrev pub unit_step : ℕ → List ℕ → List Event → Ledger → Outcome
+unit_step moment caller (event ∷ []) L = step moment caller event L
+unit_step moment caller unit L = idle []

@@ -1,0 +1,13 @@
+-- What a copy of a message counts against a quota.
+use Rattle.std.specs.Prelude.{ℕ, ◌+◌, List, length}
+use Rattle.sp_message.specs.declared.message.Message.{Message}
+use Rattle.sp_message.specs.declared.message.Dest.{Dest}
+use Rattle.sp_message.specs.declared.message.Dest.TheVariants.{Queue}
+
+-- the bytes of the destination's text
+abbrev pub dest_bytes : Dest → List ℕ
+dest_bytes (Queue name) = name
+
+-- 64 bytes, and those of the destination and the payload
+abbrev pub size_of : Message → ℕ
+size_of m = 64 + length (dest_bytes m.dest) + length m.payload

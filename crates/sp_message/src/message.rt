@@ -1,0 +1,67 @@
+ghost use Rattle.std.specs.Prelude.{◌≡◌, ◌≤◌, length, IfOk};
+ghost use Rattle.sp_message.specs.Size.{size_of, dest_bytes};
+
+use crate::payload::Payload;
+use sp_base::name::Name;
+use std::alloc::{AllocError, Global};
+
+/// Where a message goes.
+#[derive(Debug, Drop)]
+pub enum Dest {
+    /// To the queue of this name.
+    Queue(Name),
+}
+
+impl Dest {
+    /// The destination's bytes.
+    pub fn as_bytes(&self) -> &[u8]
+        ensures value { result.now ≡ dest_bytes self.now }
+        ensures bound { length result.now ≤ 200 }
+    {
+        match self {
+            Dest::Queue(name) => name.as_bytes(),
+        }
+    }
+
+    /// A second destination that equals this one.
+    pub fn copy(&self, alloc: Global) -> Result<Dest, AllocError>
+        ensures { IfOk result (λ d. d ≡ self.now) }
+    {
+        match self {
+            Dest::Queue(name) => Ok(Dest::Queue(name.copy(alloc)?)),
+        }
+    }
+}
+
+/// A guaranteed message as it was published.
+#[derive(Debug, Drop)]
+pub struct Message {
+    pub dest: Dest,
+    pub payload: Payload,
+    /// The time to live in milliseconds, from 0 to 4,294,967,295,000; 0 sets no bound.
+    pub ttl: u64,
+    /// Whether a dead copy may be moved to a dead-message queue.
+    pub eligible: bool,
+}
+
+impl Message {
+    /// The bytes that a copy counts against a quota: 64, the destination's and the payload's.
+    pub fn size(&self) -> u64
+        ensures size { result ≡ size_of self.now }
+        ensures bound { result ≤ 8388872 }
+    {
+        64 + self.dest.as_bytes().len() as u64 + self.payload.as_slice().len() as u64
+    }
+
+    /// A second message that equals this one.
+    pub fn copy(&self, alloc: Global) -> Result<Message, AllocError>
+        ensures { IfOk result (λ m. m ≡ self.now) }
+    {
+        Ok(Message {
+            dest: self.dest.copy(alloc)?,
+            payload: self.payload.copy(alloc)?,
+            ttl: self.ttl,
+            eligible: self.eligible,
+        })
+    }
+}
