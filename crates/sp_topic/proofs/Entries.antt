@@ -48,6 +48,12 @@ and_comm true false = refl
 and_comm false true = refl
 and_comm false false = refl
 
+-- the texts without one of them
+pub texts_kept : (texts : List (List ℕ)) (gone text : List ℕ) → has_text (filter (λ s. not (bytes_eq s gone)) texts) text ≡ (has_text texts text && not (bytes_eq text gone))
+texts_kept texts gone text =
+    any-filter_same (λ s. bytes_eq s text) (λ s. not (bytes_eq s gone)) (not (bytes_eq text gone)) (λ s h. ap (λ x. not (bytes_eq x gone)) (same_text s text (sym h))) texts
+    ∙ and_comm (not (bytes_eq text gone)) (has_text texts text)
+
 -- whether p is another pair than (e, t), asked of a p that is (f, s)
 other_at : (e f : ℕ) (s t : List ℕ) (p : Pair) → (p.endpoint == f && bytes_eq p.subscription s) ≡ true → not (p.endpoint == e && bytes_eq p.subscription t) ≡ not (f == e && bytes_eq s t)
 other_at e f s t p h =

@@ -1,4 +1,4 @@
-ghost use Rattle.std.specs.Prelude.{◌≡◌, ◌≤◌, ◌<◌, ◌+◌, ◌↔◌, ◌++◌, ◌∷◌, [], ℕ, not, true, false, bytes_eq, filter, length, OnOk, OnErr};
+ghost use Rattle.std.specs.Prelude.{◌≡◌, ◌≤◌, ◌<◌, ◌+◌, ◌↔◌, ◌++◌, ◌∷◌, ◌&&◌, [], ℕ, List, not, true, false, bytes_eq, filter, length, OnOk, OnErr};
 ghost use Rattle.std.specs.List.{list_any};
 ghost use Rattle.sp_topic.specs.Matching.{excepts, selects};
 ghost use Rattle.sp_topic.specs.Subscriptions.{has_text, takes};
@@ -113,6 +113,7 @@ impl Subscriptions {
     pub fn remove(&mut self, subscription: &Subscription) -> bool
         ensures found { result ≡ has_text self.old.items subscription.now }
         ensures items { self.new.items ≡ filter (λ s. not (bytes_eq s subscription.now)) self.old.items }
+        ensures texts { (text : List ℕ) → has_text self.new.items text ≡ (has_text self.old.items text && not (bytes_eq text subscription.now)) }
         ensures room { self.old.room ≤ self.new.room }
     {
         let found = self.has(subscription);

@@ -111,7 +111,7 @@ impl Tree {
     pub fn matching(&self, topic: &Topic, into: &mut Vec<EndpointNo>) -> Result<(), AllocError>
         ensures rising { OnOk result (IsStrictlyIncreasing into.new.items) }
         ensures endpoints { OnOk result ((e : ℕ) → Contains into.new.items e ↔ IsTrue (takes (texts_of self.now e) topic.now)) }
-        ensures by_texts { OnOk result ((e : ℕ) (texts : List (List ℕ)) → AreTextsOf self.now e texts → (Contains into.new.items e ↔ IsTrue (takes texts topic.now))) }
+        ensures by_texts { OnOk result ((e : ℕ) (texts : List (List ℕ)) → AreTextsOf self.now e texts → list_any (λ n. n == e) into.new.items ≡ takes texts topic.now) }
     {
         self.selected(topic, into)?;
         into.sort_unstable();

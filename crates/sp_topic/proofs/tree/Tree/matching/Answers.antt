@@ -27,4 +27,4 @@ returns-clause-endpoints c = λ e.
 
 pub returns-clause-by_texts : goal.returns-clause-by_texts
 returns-clause-by_texts c = λ e texts h.
-    Contains-where _ e _ (ap (list_any (λ n. n == e)) (left_is c) ∙ taken c.args.self.now c.args.topic.now _ _ c.in_ok-selected.ensures c.sort_unstable.ensures.permutation e ∙ takes-AreTextsOf c.args.self.now e texts c.args.topic.now h)
+    ap (list_any (λ n. n == e)) (left_is c) ∙ taken c.args.self.now c.args.topic.now _ _ c.in_ok-selected.ensures c.sort_unstable.ensures.permutation e ∙ takes-AreTextsOf c.args.self.now e texts c.args.topic.now h
