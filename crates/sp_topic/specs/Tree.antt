@@ -29,12 +29,14 @@ SamePairs old new = (endpoint : ℕ) (text : List ℕ) → has_pair new endpoint
 -- the new one holds this pair too
 abbrev pub AddsPair : Entries → Entries → ℕ → List ℕ → Type 0
 AddsPair old new e t =
-    (endpoint : ℕ) (text : List ℕ) → has_pair new endpoint text ≡ (has_pair old endpoint text || (e == endpoint && bytes_eq t text))
+    (endpoint : ℕ) (text : List ℕ) → has_pair new endpoint text
+    ≡ (has_pair old endpoint text || (e == endpoint && bytes_eq t text))
 
 -- the new one holds all pairs but this one
 abbrev pub TakesPairOut : Entries → Entries → ℕ → List ℕ → Type 0
 TakesPairOut old new e t =
-    (endpoint : ℕ) (text : List ℕ) → has_pair new endpoint text ≡ (has_pair old endpoint text && not (endpoint == e && bytes_eq text t))
+    (endpoint : ℕ) (text : List ℕ) → has_pair new endpoint text
+    ≡ (has_pair old endpoint text && not (endpoint == e && bytes_eq text t))
 
 -- what could be inserted without memory still can
 abbrev pub KeepsRoom : Entries → Entries → Type 0

@@ -53,7 +53,8 @@ impl Subscription {
     pub fn read(alloc: Global, bytes: &[u8]) -> Result<Subscription, SubscriptionError>
         ensures ok { IfOk result (λ s. s ≡ bytes.now) }
         ensures form { OnOk result (IsSubscription bytes.now) }
-        ensures bad { (at : ℕ) → (result ≡ Err (SubscriptionError.Bad at)) ↔ (subscription_fault bytes.now ≡ Some at) }
+        ensures bad { (at : ℕ) → (result ≡ Err (SubscriptionError.Bad at))
+            ↔ (subscription_fault bytes.now ≡ Some at) }
     {
         match after_mark(bytes) {
             Some(topic) => Subscription::read_exception(alloc, topic),
@@ -66,7 +67,8 @@ impl Subscription {
         requires { is_exception bytes.now ≡ false }
         ensures ok { IfOk result (λ s. s ≡ bytes.now) }
         ensures form { OnOk result (IsSubscription bytes.now) }
-        ensures bad { (at : ℕ) → (result ≡ Err (SubscriptionError.Bad at)) ↔ (subscription_fault bytes.now ≡ Some at) }
+        ensures bad { (at : ℕ) → (result ≡ Err (SubscriptionError.Bad at))
+            ↔ (subscription_fault bytes.now ≡ Some at) }
     {
         match topic_text(bytes) {
             Ok(topic) => Ok(Subscription {
@@ -81,7 +83,8 @@ impl Subscription {
     fn read_exception(alloc: Global, topic: &[u8]) -> Result<Subscription, SubscriptionError>
         ensures ok { IfOk result (λ s. s ≡ 33 ∷ topic.now) }
         ensures form { OnOk result (IsSubscription (33 ∷ topic.now)) }
-        ensures bad { (at : ℕ) → (result ≡ Err (SubscriptionError.Bad at)) ↔ (subscription_fault (33 ∷ topic.now) ≡ Some at) }
+        ensures bad { (at : ℕ) → (result ≡ Err (SubscriptionError.Bad at))
+            ↔ (subscription_fault (33 ∷ topic.now) ≡ Some at) }
     {
         match topic_text(topic) {
             Ok(topic) => Ok(Subscription {

@@ -92,7 +92,8 @@ impl Subscriptions {
         ensures ok { OnOk result (self.new.items ≡ self.old.items ++ subscription ∷ []) }
         ensures err { OnErr result (self.new.items ≡ self.old.items) }
         ensures exists { (result ≡ Err AddError.Exists) ↔ (has_text self.old.items subscription ≡ true) }
-        ensures full { (result ≡ Err AddError.Full) ↔ ((has_text self.old.items subscription ≡ false) × (length self.old.items ≡ 100)) }
+        ensures full { (result ≡ Err AddError.Full)
+            ↔ ((has_text self.old.items subscription ≡ false) × (length self.old.items ≡ 100)) }
         ensures memory { result ≡ Err AddError.Memory → self.old.room ≡ 0 }
         ensures spent { self.old.room ≤ self.new.room + 1 }
         ensures unspent { OnErr result (self.old.room ≤ self.new.room) }
@@ -113,7 +114,8 @@ impl Subscriptions {
     pub fn remove(&mut self, subscription: &Subscription) -> bool
         ensures found { result ≡ has_text self.old.items subscription.now }
         ensures items { self.new.items ≡ filter (λ s. not (bytes_eq s subscription.now)) self.old.items }
-        ensures texts { (text : List ℕ) → has_text self.new.items text ≡ (has_text self.old.items text && not (bytes_eq text subscription.now)) }
+        ensures texts { (text : List ℕ) → has_text self.new.items text
+            ≡ (has_text self.old.items text && not (bytes_eq text subscription.now)) }
         ensures room { self.old.room ≤ self.new.room }
     {
         let found = self.has(subscription);

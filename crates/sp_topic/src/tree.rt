@@ -88,7 +88,8 @@ impl Tree {
         ensures ok { OnOk result (AddsPair self.old self.new endpoint subscription.now) }
         ensures err { OnErr result (SamePairs self.old self.new) }
         ensures prepared { has_room self.old subscription.now ≡ true → IsOk result }
-        ensures room { (text : List ℕ) → text ≢ subscription.now → has_room self.old text ≡ true → has_room self.new text ≡ true }
+        ensures room { (text : List ℕ) → text ≢ subscription.now →
+            has_room self.old text ≡ true → has_room self.new text ≡ true }
     {
         if self.has(endpoint, subscription) {
             return Ok(());
@@ -110,8 +111,13 @@ impl Tree {
     /// number. What it held before plays no part, and without memory it may hold anything.
     pub fn matching(&self, topic: &Topic, into: &mut Vec<EndpointNo>) -> Result<(), AllocError>
         ensures rising { OnOk result (IsStrictlyIncreasing into.new.items) }
-        ensures endpoints { OnOk result ((e : ℕ) → Contains into.new.items e ↔ IsTrue (takes (texts_of self.now e) topic.now)) }
-        ensures by_texts { OnOk result ((e : ℕ) (texts : List (List ℕ)) → AreTextsOf self.now e texts → list_any (λ n. n == e) into.new.items ≡ takes texts topic.now) }
+        ensures endpoints { OnOk result
+            ((e : ℕ) → Contains into.new.items e ↔ IsTrue (takes (texts_of self.now e) topic.now)) }
+
+        // The same as a test, for any list of the texts that the tree holds for an endpoint.
+        ensures by_texts { OnOk result
+            ((e : ℕ) (texts : List (List ℕ)) → AreTextsOf self.now e texts →
+            list_any (λ n. n == e) into.new.items ≡ takes texts topic.now) }
     {
         self.selected(topic, into)?;
         into.sort_unstable();
@@ -122,7 +128,9 @@ impl Tree {
 
     /// The endpoints of the plain subscriptions that match the topic.
     fn selected(&self, topic: &Topic, into: &mut Vec<EndpointNo>) -> Result<(), AllocError>
-        ensures { OnOk result ((e : ℕ) → list_any (λ n. n == e) into.new.items ≡ list_any (λ p. p.endpoint == e && selects p.subscription topic.now) self.now.pairs) }
+        ensures { OnOk result
+            ((e : ℕ) → list_any (λ n. n == e) into.new.items
+            ≡ list_any (λ p. p.endpoint == e && selects p.subscription topic.now) self.now.pairs) }
     {
         into.clear();
         for pair in &self.pairs {
@@ -135,7 +143,8 @@ impl Tree {
 
     /// Whether an exception of the endpoint matches the topic.
     fn excepts(&self, endpoint: EndpointNo, topic: &Topic) -> bool
-        ensures { result ≡ list_any (λ p. p.endpoint == endpoint && excepts p.subscription topic.now) self.now.pairs }
+        ensures { result
+            ≡ list_any (λ p. p.endpoint == endpoint && excepts p.subscription topic.now) self.now.pairs }
     {
         self.pairs.iter().any(|p| p.endpoint == endpoint && p.subscription.excepts(topic))
     }
@@ -157,7 +166,8 @@ impl Tree {
     fn insert_prepared(&mut self, endpoint: EndpointNo, subscription: &Subscription)
         requires { has_room self.old subscription.now ≡ true }
         ensures pairs { AddsPair self.old self.new endpoint subscription.now }
-        ensures room { (text : List ℕ) → text ≢ subscription.now → has_room self.old text ≡ true → has_room self.new text ≡ true }
+        ensures room { (text : List ℕ) → text ≢ subscription.now →
+            has_room self.old text ≡ true → has_room self.new text ≡ true }
     {
         let Some(at) = self.prepared_at(subscription) else {
             unreachable!()
