@@ -1,0 +1,4 @@
+pub mod Matching
+pub mod Subscription
+pub mod Subscriptions
+pub mod Tree
