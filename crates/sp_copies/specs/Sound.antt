@@ -1,7 +1,5 @@
 -- What holds of every history of copies.
 use Rattle.std.specs.Prelude.{◌≡◌, ◌==◌, ◌≤◌, ◌<◌, ℕ, ◌^◌, length, All, AllPairs, count_by, IsTrue}
-use Rattle.sp_copies.specs.declared.made.MadeCopy.{MadeCopy}
-use Rattle.sp_copies.specs.declared.closed.ClosedCopy.{ClosedCopy}
 use Rattle.sp_copies.specs.History.{History, is_made, closings_of, used_bytes}
 
 pub record IsSoundHistory (H : History) : Type 0 where

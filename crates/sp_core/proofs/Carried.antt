@@ -4,10 +4,8 @@ use Rattle.sp_copies.specs.History.{History}
 use Rattle.sp_copies.specs.Kept.{Kept, Records}
 use Rattle.sp_ledger.specs.Ledger.{Ledger}
 use Rattle.sp_ledger.specs.Sound.{IsSound}
-use Rattle.sp_ledger.specs.Outcome.{Outcome}
-use Rattle.sp_ledger.specs.Step.{unit_step}
 use Rattle.sp_ledger.proofs.Soundness.{step_sound}
-use Rattle.sp_core.specs.Decided.{ReadyState, IsPrepared, CarriesOut}
+use Rattle.sp_core.specs.Decided.{ReadyState, IsPrepared}
 use Rattle.sp_core.specs.Plan.{unit_of, carried_out}
 use Rattle.sp_core.specs.Stands.{Stands, IsRoomier}
 use Rattle.sp_core.specs.State.{CoreState, ledger_of}

@@ -1,7 +1,6 @@
 -- What was decided is prepared.
-use Rattle.std.proofs.Common.{◌≡◌, ◌≤◌, ◌<◌, ℕ, ◌+◌, ◌^◌, max, List, [], ◌∷◌, Option, Some, None, refl, sym, ap, ◌∙◌, arith}
+use Rattle.std.proofs.Common.{◌≡◌, ◌≤◌, ◌<◌, ℕ, ◌+◌, max, List, [], ◌∷◌, Some, None, refl, sym, ap, ◌∙◌, arith}
 use Rattle.std.proofs.lemmas.Bool.{ltb-false}
-use Rattle.sp_base.specs.declared.refusal.Refusal.{Refusal}
 use Rattle.sp_message.specs.declared.message.Message.{Message}
 use Rattle.sp_message.specs.Size.{size_of, dest_bytes}
 use Rattle.sp_copies.specs.declared.closed.Fate.TheVariants as fates
@@ -16,7 +15,6 @@ use Rattle.sp_ledger.specs.Outcome.{accepted, decided}
 use Rattle.sp_ledger.specs.Provision.{provision_checks, provisioned}
 use Rattle.sp_ledger.specs.Publish.{publish_checks, published, publish_to, default_quota}
 use Rattle.sp_ledger.proofs.Decisions.{passes}
-use Rattle.sp_core.specs.declared.rows.Endpoint.{Endpoint}
 use Rattle.sp_core.specs.declared.rows.Published.{Published}
 use Rattle.sp_core.specs.declared.plan.Plan.TheVariants.{Provision, Publish}
 use Rattle.sp_core.specs.Decided.{IsPrepared}

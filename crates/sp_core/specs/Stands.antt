@@ -1,5 +1,5 @@
 -- Which ledgers a core stands for.
-use Rattle.std.specs.Prelude.{◌≡◌, ◌≤◌, ℕ, [], List}
+use Rattle.std.specs.Prelude.{◌≡◌, ◌≤◌, []}
 use Rattle.sp_copies.specs.Kept.{Records}
 use Rattle.sp_ledger.specs.Ledger.{Ledger}
 use Rattle.sp_ledger.specs.Sound.{IsSound}

@@ -1,5 +1,5 @@
 -- What a reply shows, as a JSON value. The keys stand in the order of their bytes.
-use Rattle.std.specs.Prelude.{ℕ, List, [], ◌∷◌, map, fold, codes}
+use Rattle.std.specs.Prelude.{ℕ, List, map, fold, codes}
 use Rattle.serde_json.specs.View.{items_of}
 use Rattle.serde_json.specs.Data.{Data, string, object, array, Members, member, no_members, put}
 use Rattle.sp_copies.specs.declared.closed.Cause.{Cause}

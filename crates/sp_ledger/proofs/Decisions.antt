@@ -1,5 +1,5 @@
 -- What an accepted event leaves, from the checks that it passed.
-use Rattle.std.proofs.Common.{◌≡◌, ℕ, Bool, true, false, cond, List, [], ◌∷◌, length, Option, Some, None, refl, subst}
+use Rattle.std.proofs.Common.{◌≡◌, ℕ, Bool, true, false, cond, List, [], ◌∷◌, Option, Some, None, refl, subst}
 use Rattle.sp_base.specs.declared.refusal.Refusal.{Refusal}
 use Rattle.sp_message.specs.declared.message.Message.{Message}
 use Rattle.sp_message.specs.Size.{dest_bytes}
@@ -8,7 +8,7 @@ use Rattle.sp_event.specs.declared.request.Event.{Event}
 use Rattle.sp_event.specs.declared.request.Event.TheVariants.{Provision, Publish}
 use Rattle.sp_ledger.specs.Checks.{Check, first_refusal}
 use Rattle.sp_ledger.specs.Ledger.{Ledger, Endpoint, named}
-use Rattle.sp_ledger.specs.Outcome.{Outcome, accepted, Stepped, decided}
+use Rattle.sp_ledger.specs.Outcome.{accepted, Stepped, decided}
 use Rattle.sp_ledger.specs.Provision.{provision_checks, provisioned}
 use Rattle.sp_ledger.specs.Publish.{publish_checks, published, publish_to}
 use Rattle.sp_ledger.specs.Step.{unit_step}

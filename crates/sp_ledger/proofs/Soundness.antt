@@ -1,5 +1,5 @@
 -- Each event keeps the ledger sound.
-use Rattle.std.proofs.Common.{◌≡◌, ◌≤◌, ◌<◌, ℕ, ◌+◌, ◌^◌, Bool, true, false, cond, List, [], ◌∷◌, ◌++◌, Option, Some, None, arith, subst}
+use Rattle.std.proofs.Common.{◌≡◌, ◌≤◌, ◌<◌, ℕ, ◌+◌, ◌^◌, Bool, true, false, cond, List, [], ◌∷◌, Some, None, arith, subst}
 use Rattle.std.specs.Prelude.{All, find, bytes_eq}
 use Rattle.std.proofs.lemmas.List.Elements.{All-push, All-weaker, All-head, All-tail}
 use Rattle.std.proofs.lemmas.List.Quantifiers.{all_pairs_push}
@@ -12,7 +12,7 @@ use Rattle.sp_copies.proofs.MadeSound.{made_sound, used-with_made}
 use Rattle.sp_event.specs.declared.answer.Reply.{Reply}
 use Rattle.sp_event.specs.declared.request.Event.{Event}
 use Rattle.sp_ledger.specs.Checks.{first_refusal}
-use Rattle.sp_ledger.specs.Ledger.{Ledger, Endpoint, Published, named, empty_ledger, Next}
+use Rattle.sp_ledger.specs.Ledger.{Ledger, Endpoint, Published, named}
 use Rattle.sp_ledger.specs.Outcome.{accepted}
 use Rattle.sp_ledger.specs.Provision.{provision_checks, provisioned}
 use Rattle.sp_ledger.specs.Publish.{publish_checks, published, copy_for, default_quota}

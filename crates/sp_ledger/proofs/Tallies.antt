@@ -1,7 +1,6 @@
 -- Every copy is counted once by its fate.
 use Rattle.std.proofs.Common.{◌≡◌, ◌==◌, ℕ, ◌+◌, Bool, true, false, ◌&&◌, ◌||◌, not, cond, List, [], ◌∷◌, Option, Some, None, refl, ap, subst, arith, ◌∙◌}
 use Rattle.std.specs.Prelude.{count_by, find, is_some, option_map}
-use Rattle.std.specs.List.{list_any}
 use Rattle.std.proofs.lemmas.List.Sums.{sum_by-cons}
 use Rattle.sp_copies.specs.declared.made.MadeCopy.{MadeCopy}
 use Rattle.sp_copies.specs.declared.closed.ClosedCopy.{ClosedCopy}
@@ -13,7 +12,7 @@ use Rattle.sp_event.specs.declared.answer.Reply.{Reply}
 use Rattle.sp_event.specs.declared.answer.Reply.TheVariants as replies
 use Rattle.sp_event.specs.declared.request.Query.{Query}
 use Rattle.sp_event.specs.declared.request.Query.TheVariants as queries
-use Rattle.sp_ledger.specs.Answer.{Answer, gave, unanswered, answer, tally_in, tally_named}
+use Rattle.sp_ledger.specs.Answer.{gave, answer, tally_in, tally_named}
 use Rattle.sp_ledger.specs.Balance.{IsBalanced, TellsBalanced}
 use Rattle.sp_ledger.specs.Extends.{TellsMade}
 use Rattle.sp_ledger.specs.Ledger.{Ledger, Endpoint, named}

@@ -1,5 +1,5 @@
 -- A later ledger of a run.
-use Rattle.std.specs.Prelude.{◌≡◌, List, [], ◌∷◌, ◌++◌, All, ⊤, true}
+use Rattle.std.specs.Prelude.{◌≡◌, List, ◌++◌, All, ⊤, true}
 use Rattle.sp_copies.specs.declared.made.MadeCopy.{MadeCopy}
 use Rattle.sp_copies.specs.declared.closed.ClosedCopy.{ClosedCopy}
 use Rattle.sp_copies.specs.History.{is_made}

@@ -1,9 +1,8 @@
 -- What every ledger of a run has.
 use Rattle.std.specs.Prelude.{◌≤◌, ◌<◌, ℕ, ◌+◌, ◌^◌, All, AllPairs}
-use Rattle.sp_copies.specs.declared.made.MadeCopy.{MadeCopy}
 use Rattle.sp_copies.specs.History.{used_bytes}
 use Rattle.sp_copies.specs.Sound.{IsSoundHistory}
-use Rattle.sp_ledger.specs.Ledger.{Ledger, Endpoint, Published}
+use Rattle.sp_ledger.specs.Ledger.{Ledger}
 
 pub record IsSound (L : Ledger) : Type 0 where
   -- each copy's number stands once, and no copy has two closings

@@ -1,10 +1,8 @@
 -- Answers to entries, by kind.
-use Rattle.std.proofs.Common.{◌≡◌, ◌⊎◌, ℕ, List, None, Ok, Err, inl, inr, refl, sym, subst}
+use Rattle.std.proofs.Common.{◌≡◌, ◌⊎◌, Err, inl, inr, refl, sym, subst}
 use Rattle.sp_event.specs.declared.answer.Answered.{Answered}
 use Rattle.sp_event.specs.declared.answer.Answered.TheVariants.{Memory}
 use Rattle.sp_ledger.specs.Ledger.{Ledger}
-use Rattle.sp_core.specs.Stands.{Stands}
-use Rattle.sp_core.specs.State.{CoreState}
 use Rattle.sp_flowline.specs.declared.read.ReadError.{ReadError}
 use Rattle.sp_flowline.specs.declared.read.ReadError.TheVariants as errors
 use Rattle.sp_flowline.specs.Outcome.{Reads}
@@ -12,7 +10,7 @@ use Rattle.sp_flowline.specs.Request as reading
 use Rattle.sp_tape.specs.declared.entry.Entry.{Entry}
 use Rattle.sp_tape.specs.declared.entry.Kind.{Kind}
 use Rattle.sp_tape.specs.declared.entry.Kind.TheVariants.{Flow}
-use Rattle.sp_tape.specs.Acts.{ActsAs, Acts, AnswersReading, unread_answer}
+use Rattle.sp_tape.specs.Acts.{ActsAs, Acts, unread_answer}
 
 -- a line of which no request was read changes nothing
 pub unread_acts : (e : Entry) (L : Ledger) (error : ReadError) (answered : Answered) → Reads e.body (Err error) → answered ≡ unread_answer error → ActsAs Flow e L answered L ⊎ ((answered ≡ Memory) × (L ≡ L))

@@ -1,5 +1,5 @@
 -- What a run's answers told holds at its end.
-use Rattle.std.proofs.Common.{◌≡◌, ◌⊎◌, ℕ, List, [], ◌∷◌, None, true, inl, inr, refl, sym, subst}
+use Rattle.std.proofs.Common.{◌≡◌, ℕ, List, [], ◌∷◌, None, true, inl, inr, refl, sym, subst}
 use Rattle.std.specs.Prelude.{All, ⊤}
 use Rattle.std.proofs.lemmas.List.Elements.{All-nil, All-cons, All-weaker, All-head}
 use Rattle.sp_event.specs.declared.answer.Answered.{Answered}
@@ -12,7 +12,6 @@ use Rattle.sp_event.specs.declared.request.Ask.TheVariants.{Do, Look}
 use Rattle.sp_event.specs.declared.request.Event.{Event}
 use Rattle.sp_copies.specs.History.{is_made}
 use Rattle.sp_copies.specs.Sound.{HasOneFate}
-use Rattle.sp_ledger.specs.Answer.{answer, gave, unanswered}
 use Rattle.sp_ledger.specs.Balance.{TellsBalanced}
 use Rattle.sp_ledger.specs.Extends.{Extends, TellsMade}
 use Rattle.sp_ledger.specs.Ledger.{Ledger}

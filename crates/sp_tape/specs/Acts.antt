@@ -1,6 +1,5 @@
 -- What an entry is answered, and the ledger after it.
 use Rattle.std.specs.Prelude.{◌≡◌, ◌⊎◌, ℕ, List, [], ◌∷◌, None}
-use Rattle.sp_base.specs.declared.refusal.Refusal.{Refusal}
 use Rattle.sp_base.specs.declared.refusal.Refusal.TheVariants.{BadRequest}
 use Rattle.sp_event.specs.declared.request.Ask.{Ask}
 use Rattle.sp_event.specs.declared.request.Ask.TheVariants.{Do, Look}

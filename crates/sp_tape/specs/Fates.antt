@@ -1,7 +1,5 @@
 -- What holds at the end of a run of what its answers told.
 use Rattle.std.specs.Prelude.{All, ⊤}
-use Rattle.sp_base.specs.declared.refusal.Refusal.{Refusal}
-use Rattle.sp_event.specs.declared.answer.PublishedCopy.{PublishedCopy}
 use Rattle.sp_event.specs.declared.answer.Answered.{Answered}
 use Rattle.sp_event.specs.declared.answer.Answered.TheVariants.{Gave, Refused, Memory, Disk, Full}
 use Rattle.sp_event.specs.declared.answer.Reply.{Reply}

@@ -2,7 +2,6 @@
 use Rattle.std.specs.Prelude.{ℕ, ◌-◌, List, [], ◌∷◌, flat_map}
 use Rattle.sp_event.specs.declared.answer.Answered.{Answered}
 use Rattle.sp_ledger.specs.Ledger.{Ledger}
-use Rattle.sp_core.specs.declared.rows.Numbers.{Numbers}
 use Rattle.sp_core.specs.Rows.{empty_at}
 use Rattle.sp_flowline.specs.Answers.{line_of}
 use Rattle.sp_tape.specs.declared.entry.Entry.{Entry}

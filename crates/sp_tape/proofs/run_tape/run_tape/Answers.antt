@@ -1,5 +1,5 @@
 use Rattle.std.proofs.Common.{[], arith}
-use Rattle.sp_tape.proofs.SoFar.{begins, ends_done, ends_bad, ends_read_fault, ends_memory, goes_on, ends_write_fault, ends_unserved}
+use Rattle.sp_tape.proofs.SoFar.{ends_done, ends_bad, ends_read_fault, ends_memory, goes_on, ends_write_fault, ends_unserved}
 use Rattle.sp_tape.proofs.run_tape.run_tape.Goals as goal
 
 pub overflow_sub-offset : goal.overflow_sub-offset

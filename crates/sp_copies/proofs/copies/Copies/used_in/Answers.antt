@@ -1,4 +1,4 @@
-use Rattle.std.proofs.Common.{ap, ◌∙◌, ◌-◌, ◌^◌, ◌&&◌, not, filter, min, arith}
+use Rattle.std.proofs.Common.{ap, ◌∙◌, ◌-◌, ◌^◌, ◌&&◌, not, filter, min}
 use Rattle.sp_copies.specs.Counts.{is_of, used_in}
 use Rattle.sp_copies.specs.History.{History, is_closed}
 use Rattle.sp_copies.specs.Inside.{kept_in}

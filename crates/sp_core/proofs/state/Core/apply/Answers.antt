@@ -1,4 +1,4 @@
-use Rattle.std.proofs.Common.{List, length, refl, sym, ap, ◌∙◌, subst}
+use Rattle.std.proofs.Common.{List, length, sym, ap, ◌∙◌, subst}
 use Rattle.sp_event.specs.declared.answer.Reply.{Reply}
 use Rattle.sp_ledger.specs.Outcome.{Outcome}
 use Rattle.sp_core.specs.Decided.{CarriesOut}

@@ -1,6 +1,6 @@
-use Rattle.std.proofs.Common.{◌≤◌, sym, ap, subst, refl, arith}
+use Rattle.std.proofs.Common.{subst, refl}
 use Rattle.sp_core.specs.Inside.{core_state}
-use Rattle.sp_core.specs.Stands.{Stands, IsRoomier}
+use Rattle.sp_core.specs.Stands.{IsRoomier}
 use Rattle.sp_core.specs.State.{CoreState, ledger_of}
 use Rattle.sp_core.proofs.Carried.{own, stands_sound, copies_reserved}
 use Rattle.sp_core.proofs.state.Core.reserve_copy.Goals as goal

@@ -1,6 +1,5 @@
 use Rattle.std.proofs.Common.{◌≡◌, ◌-◌, ◌^◌, min, sym, subst, arith}
 use Rattle.sp_copies.specs.Counts.{used_in}
-use Rattle.sp_core.specs.Inside.{core_state}
 use Rattle.sp_core.specs.Stands.{Stands}
 use Rattle.sp_core.specs.State.{CoreState}
 use Rattle.sp_core.proofs.state.Core.tally.Goals as goal
