@@ -8,3 +8,6 @@ pub mod plan;
 pub mod ready;
 pub mod rows;
 pub mod state;
+
+#[cfg(test)]
+mod tests;

@@ -8,3 +8,6 @@ pub mod op;
 pub mod read;
 mod refusals;
 mod replies;
+
+#[cfg(test)]
+mod tests;

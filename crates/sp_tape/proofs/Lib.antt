@@ -8,3 +8,4 @@ pub mod Known
 pub mod Numerals
 pub mod Pieces
 pub mod SoFar
+pub mod WholeTapes

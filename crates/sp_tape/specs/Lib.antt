@@ -1,4 +1,5 @@
 pub mod Acts
+pub mod Complete
 pub mod Cut
 pub mod Entry
 pub mod Fates

@@ -8,4 +8,6 @@ pub mod parse;
 pub mod reader;
 pub mod run_tape;
 pub mod status;
+#[cfg(test)]
+mod tests;
 pub mod turn;

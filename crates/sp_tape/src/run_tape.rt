@@ -1,9 +1,11 @@
-ghost use Rattle.std.specs.Prelude.{◌≡◌, ◌≤◌, ◌↔◌, ℕ, true, false};
+ghost use Rattle.std.specs.Prelude.{◌≡◌, ◌≤◌, ◌↔◌, ℕ, List, true, false};
 ghost use Rattle.sp_base.specs.Causes.{Rose};
 ghost use Rattle.sp_core.specs.Stands.{Stands};
 ghost use Rattle.sp_tape.specs.Run.{start};
+ghost use Rattle.sp_tape.specs.Complete.{IsTapeOf, Completes};
 ghost use Rattle.sp_tape.specs.Runs.{Runs, is_run};
 
+use crate::entry::Entry;
 use crate::reader::{Next, next_entry};
 use crate::status::Status;
 use crate::turn::{Served, serve};
@@ -18,6 +20,25 @@ const LONGEST_TAPE: u64 = 1 << 40;
 /// Runs the program of these words: `run` reads a tape off the source, answers it entry by entry
 /// from the empty ledger, and writes a line for each to the sink.
 pub fn run<S: Source, K: Sink>(
+    words: &[String],
+    source: &mut S,
+    sink: &mut K,
+    alloc: Global,
+) -> Status
+    ensures usage { (result ≡ Status.Usage) ↔ (is_run words.now ≡ false) }
+    ensures tape { Runs (S.left source.old) (K.written sink.old) (K.written sink.new) result }
+    ensures read_fault { result ≡ Status.ReadFault → Rose (S.faults source.old) (S.faults source.new) }
+    ensures write_fault { result ≡ Status.WriteFault → Rose (K.faults sink.old) (K.faults sink.new) }
+
+    // Over a tape of whole entries, where neither stream failed, all is answered and written.
+    ensures complete { (entries : List Entry) → IsTapeOf (S.left source.old) entries → is_run words.now ≡ true →
+        (Rose (S.faults source.old) (S.faults source.new) → ⊥) → (Rose (K.faults sink.old) (K.faults sink.new) → ⊥) →
+        Completes entries (K.written sink.old) (K.written sink.new) result }
+{
+    run_words(words, source, sink, alloc)
+}
+
+fn run_words<S: Source, K: Sink>(
     words: &[String],
     source: &mut S,
     sink: &mut K,
