@@ -1,16 +1,15 @@
 -- A tape of whole entries is answered to its end.
-use Rattle.std.proofs.Common.{◌≡◌, ◌≤◌, ◌<◌, ℕ, ◌+◌, ◌-◌, Bool, true, false, List, [], ◌∷◌, ◌++◌, length, map, Option, Some, None, String, refl, sym, ap, ◌∙◌, subst, append_assoc, append-nil, length-append, arith}
+use Rattle.std.proofs.Common.{◌≡◌, ◌≤◌, ℕ, ◌+◌, ◌-◌, true, false, List, [], ◌∷◌, ◌++◌, length, map, Option, String, refl, sym, ap, ◌∙◌, subst, append_assoc, append-nil, length-append, arith}
 use Rattle.std.specs.declared.alloc.Global.{Global}
-use Rattle.std.specs.Io.KnownBytes.{Appends}
 use Rattle.sp_tape.specs.declared.entry.Entry.{Entry}
 use Rattle.sp_tape.specs.declared.status.Status.{Status}
 use Rattle.sp_tape.specs.declared.status.Status.TheVariants.{Done, Usage, BadTape, ReadFault, WriteFault, Memory}
 use Rattle.sp_ledger.specs.Ledger.{Ledger}
 use Rattle.sp_tape.specs.Complete.{AreEntries, text_of, IsTapeOf, Completes}
-use Rattle.sp_tape.specs.Entry.{entry_text, IsEntry, HasNoEntry, BeginsWith}
+use Rattle.sp_tape.specs.Entry.{entry_text, HasNoEntry}
 use Rattle.sp_tape.specs.Reading.{Left}
-use Rattle.sp_tape.specs.Run.{Turn, start, IsRun, ledger_after, tape_of, output_of}
-use Rattle.sp_tape.specs.Runs.{Runs, Ends, Wrote, longest_tape, is_run}
+use Rattle.sp_tape.specs.Run.{Turn, start, IsRun, tape_of}
+use Rattle.sp_tape.specs.Runs.{Runs, longest_tape, is_run}
 use Rattle.sp_tape.proofs.Entries.{same_entry}
 
 -- what is left of entries behind those that were answered

@@ -1,6 +1,10 @@
+use crate::parse::{Parsed, parse};
 use crate::run_tape::run;
 use crate::status::Status;
+use crate::turn::{Served, serve};
 use sp_base::memory_io::{MemorySink, MemorySource};
+use sp_core::rows::Numbers;
+use sp_core::state::Core;
 use std::alloc::{AllocError, Global};
 use std::test::Fail;
 
@@ -16,7 +20,8 @@ const OUTPUT: &[u8] =
 // The offsets of the entries of that tape, and its length.
 const ENTRIES: [usize; 4] = [0, 50, 113, 159];
 
-struct Ran {
+#[derive(Drop)]
+struct Ended {
     status: Status,
     output: Vec<u8>,
 }
@@ -29,7 +34,7 @@ fn ran(
     piece: usize,
     failing_reads: &[u64],
     failing_writes: &[u64],
-) -> Result<Ran, AllocError> {
+) -> Result<Ended, AllocError> {
     let mut words = Vec::new(alloc);
     words.push(String::from_str(alloc, word)?)?;
     let bytes = Vec::from_slice(alloc, tape)?;
@@ -37,7 +42,7 @@ fn ran(
     let mut sink = MemorySink::new(alloc, piece, Vec::from_slice(alloc, failing_writes)?);
     let status = run(words.as_slice(), &mut source, &mut sink, alloc);
     let output = Vec::from_slice(alloc, sink.as_slice())?;
-    Ok(Ran { status, output })
+    Ok(Ended { status, output })
 }
 
 #[test]
@@ -158,5 +163,31 @@ fn the_other_kinds_are_bad_requests(rt: HostRuntime) -> Result<(), Fail> {
                 == b"{\"refused\":{\"at\":1,\"no\":1,\"rule\":\"BadRequest\"},\"unit\":0}\n".as_slice()
         );
     }
+    Ok(())
+}
+
+#[test]
+fn spent_message_numbers_are_told(rt: HostRuntime) -> Result<(), Fail> {
+    let alloc = rt.alloc();
+    let start = Numbers {
+        message: 1 << 62,
+        ..Numbers::FIRST
+    };
+    let mut core = Core::new(alloc, start).ok().ok_or("no memory")?;
+    let mut sink = MemorySink::new(alloc, 4096, Vec::new(alloc));
+    for bytes in [&TAPE[..50], &TAPE[50..113]] {
+        match parse(alloc, bytes, 1000)? {
+            Parsed::Found(found) => {
+                let served = serve(alloc, &mut core, &mut sink, &found.entry);
+                assert_eq!(rt; served, Served::Done);
+            }
+            _ => assert!(rt; false, "no entry"),
+        }
+    }
+    assert!(rt;
+        sink.as_slice().ends_with(
+            b"{\"refused\":{\"kind\":\"message\",\"no\":27,\"rule\":\"IdsSpent\"},\"unit\":1}\n"
+        )
+    );
     Ok(())
 }
