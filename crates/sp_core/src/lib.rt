@@ -8,6 +8,5 @@ pub mod plan;
 pub mod ready;
 pub mod rows;
 pub mod state;
-
 #[cfg(test)]
 mod tests;

@@ -51,10 +51,12 @@ fn spent_message_numbers_refuse_a_publish(rt: HostRuntime) -> Result<(), Fail> {
     let ann = Name::read(alloc, b"ann")?;
     let event = publish(alloc)?;
     match core.prepare(alloc, Moment::START, &ann, slice::from_ref(&event)) {
-        Err(PrepareError::Refused {
-            index,
-            refusal: Refusal::IdsSpent { kind },
-        }) => {
+        Err(
+            PrepareError::Refused {
+                index,
+                refusal: Refusal::IdsSpent { kind },
+            },
+        ) => {
             assert_eq!(rt; index, 0);
             assert_eq!(rt; kind, Kind::Message);
         }

@@ -8,6 +8,5 @@ pub mod op;
 pub mod read;
 mod refusals;
 mod replies;
-
 #[cfg(test)]
 mod tests;

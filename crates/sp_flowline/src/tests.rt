@@ -10,9 +10,11 @@ use std::test::Fail;
 fn fault(alloc: Global, bytes: &[u8]) -> Result<Option<u64>, AllocError> {
     match read(alloc, bytes) {
         Ok(_) => Ok(None),
-        Err(ReadError::Refused {
-            refusal: Refusal::BadRequest { at },
-        }) => Ok(Some(at)),
+        Err(
+            ReadError::Refused {
+                refusal: Refusal::BadRequest { at },
+            },
+        ) => Ok(Some(at)),
         Err(ReadError::Refused { .. }) => Ok(Some(100)),
         Err(ReadError::Memory) => Err(AllocError),
     }
@@ -22,11 +24,17 @@ fn fault(alloc: Global, bytes: &[u8]) -> Result<Option<u64>, AllocError> {
 fn odd_spellings(rt: HostRuntime) -> Result<(), Fail> {
     let alloc = rt.alloc();
     for (bytes, at) in [
-        (&b" {\t\"endpoint\" : \"q1\" , \"op\":\"provision\" } "[..], None),
+        (
+            &b" {\t\"endpoint\" : \"q1\" , \"op\":\"provision\" } "[..],
+            None,
+        ),
         (&b"{\"\\u006fp\":\"\\u0074ally\"}"[..], None),
         (&b"{\"op\":\"fly\",\"op\":\"tally\"}"[..], None),
         (&b"{\"op\":\"publish\",\"queue\":\"q1\"}"[..], None),
-        (&b"{\"op\":\"publish\",\"queue\":\"q1\",\"payload\":\"\\u0000\\n\"}"[..], None),
+        (
+            &b"{\"op\":\"publish\",\"queue\":\"q1\",\"payload\":\"\\u0000\\n\"}"[..],
+            None,
+        ),
         (&b""[..], Some(0)),
         (&b"{\"op\":\"tally\"}\n"[..], Some(0)),
         (&b"{\n\"op\":\"tally\"}"[..], Some(0)),
@@ -41,12 +49,18 @@ fn odd_spellings(rt: HostRuntime) -> Result<(), Fail> {
         (&b"{\"op\":\"Tally\"}"[..], Some(1)),
         (&b"{\"op\":\"provision\",\"x\":1}"[..], Some(2)),
         (&b"{\"op\":\"publish\",\"topic\":\"t\"}"[..], Some(2)),
-        (&b"{\"op\":\"publish\",\"queue\":5,\"topic\":\"t\"}"[..], Some(3)),
+        (
+            &b"{\"op\":\"publish\",\"queue\":5,\"topic\":\"t\"}"[..],
+            Some(3),
+        ),
         (&b"{\"op\":\"tally\",\"endpoint\":5,\"x\":1}"[..], Some(3)),
         (&b"{\"op\":\"tally\",\"endpoint\":null}"[..], Some(4)),
         (&b"{\"op\":\"tally\",\"endpoint\":\"\"}"[..], Some(4)),
         (&b"{\"op\":\"publish\",\"queue\":\"q 1\"}"[..], Some(4)),
-        (&b"{\"op\":\"publish\",\"queue\":\"q1\",\"payload\":1}"[..], Some(4)),
+        (
+            &b"{\"op\":\"publish\",\"queue\":\"q1\",\"payload\":1}"[..],
+            Some(4),
+        ),
     ] {
         assert_eq!(rt; fault(alloc, bytes)?, at);
     }
@@ -104,6 +118,9 @@ fn answers_that_are_no_reply(rt: HostRuntime) -> Result<(), Fail> {
     ] {
         line(alloc, &answer, 2, &mut lines).ok().ok_or("no memory")?;
     }
-    assert!(rt; lines.as_slice() == b"{\"memory\":true}\n{\"fault\":\"disk\"}\n{\"full\":{\"len\":85,\"max\":100,\"need\":46}}\n".as_slice());
+    assert!(rt;
+        lines.as_slice()
+            == b"{\"memory\":true}\n{\"fault\":\"disk\"}\n{\"full\":{\"len\":85,\"max\":100,\"need\":46}}\n".as_slice()
+    );
     Ok(())
 }
