@@ -9,3 +9,4 @@ pub mod Parse
 pub mod Reading
 pub mod Run
 pub mod Runs
+pub mod Status

@@ -1,3 +1,5 @@
+ghost use Rattle.std.specs.Prelude.{◌≡◌, IfOk, string_bytes, option_map};
+
 use std::alloc::{AllocError, Global};
 
 /// How a run ended.
@@ -19,8 +21,12 @@ pub enum Status {
 }
 
 impl Status {
+    ghost use Rattle.sp_tape.specs.Status.{status_number, status_line};
+
     /// The exit status of the program.
-    pub fn number(self) -> u8 {
+    pub fn number(self) -> u8
+        ensures { result ≡ status_number self }
+    {
         match self {
             Status::Done => 0,
             Status::Usage => 2,
@@ -32,7 +38,9 @@ impl Status {
     }
 
     /// The line on standard error, without its line feed. None where the run was done.
-    pub fn line(self, alloc: Global) -> Result<Option<String>, AllocError> {
+    pub fn line(self, alloc: Global) -> Result<Option<String>, AllocError>
+        ensures { IfOk result (λ line. option_map string_bytes line ≡ status_line self) }
+    {
         match self {
             Status::Done => Ok(None),
             Status::Usage => Ok(Some(String::from_str(alloc, "usage: spoolrun run")?)),
