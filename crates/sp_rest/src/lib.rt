@@ -1,0 +1,7 @@
+//! Requests over HTTP/1.1 are cut from bytes, and answers are written as responses.
+#![tactic(auto)]
+
+mod length;
+pub mod request;
+pub mod response;
+pub mod status;

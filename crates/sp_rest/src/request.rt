@@ -1,0 +1,23 @@
+use sp_base::bytes::Bytes;
+use sp_base::items::Items;
+
+/// A header field.
+#[derive(Debug, Drop)]
+pub struct Field {
+    /// As it was written; names compare without regard to ASCII case.
+    pub name: Bytes,
+    /// Without the spaces and tabs around it.
+    pub value: Bytes,
+}
+
+/// A request over HTTP/1.0 or HTTP/1.1.
+#[derive(Debug, Drop)]
+pub struct Request {
+    pub method: Bytes,
+    /// The path and the query, as they were written.
+    pub target: Bytes,
+    /// In the order in which they came.
+    pub fields: Items<Field>,
+    /// As many bytes as the field Content-Length says, and none without it.
+    pub body: Bytes,
+}
