@@ -1,3 +1,6 @@
 pub mod Codes
+pub mod Cutting
+pub mod Fronts
+pub mod Heads
 pub mod Request
 pub mod Response

@@ -1,5 +1,5 @@
 // The length of a request's body, by the fields of its head.
-ghost use Rattle.std.specs.Prelude.{◌≡◌, ◌≤◌, All, codes, length, map};
+ghost use Rattle.std.specs.Prelude.{◌≡◌, ◌≤◌, All, true, codes, length, map};
 ghost use Rattle.std.specs.List.{filter, list_any};
 ghost use Rattle.std.specs.Str.{all_ascii_digits};
 ghost use Rattle.httparse.specs.Spans.{IsHeaderWithin, header_bytes};

@@ -1,6 +1,8 @@
 //! Requests over HTTP/1.1 are cut from bytes, and answers are written as responses.
 #![tactic(auto)]
 
+pub mod cut;
+mod head;
 mod length;
 pub mod request;
 pub mod response;
