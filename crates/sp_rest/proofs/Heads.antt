@@ -1,12 +1,15 @@
 -- What follows doesn't change the head, so what breaks a limit breaks it for good.
-use Rattle.std.proofs.Common.{◌≡◌, ℕ, ◌<◌, ◌≤◌, List, ◌++◌, length, take, drop, map, sym, ap, ◌∙◌, subst, arith, take-append-drop, refl, Option, Some, None}
-use Rattle.std.proofs.lemmas.List.{take-append-le, take_at, length-map}
+use Rattle.std.proofs.Common.{replicate, inl, ◌-◌, [], ◌∷◌, length-append, length-take, append_assoc, append-nil, ◌+◌, ◌≡◌, ℕ, ◌<◌, ◌≤◌, List, ◌++◌, length, take, drop, map, sym, ap, ◌∙◌, subst, arith, take-append-drop, refl, Option, Some, None}
+use Rattle.std.proofs.lemmas.List.{take-append-le, take_at, length-map, length-replicate}
+use Rattle.std.specs.Prelude.{unwrap_or}
 use Rattle.httparse.specs.Grammar.{RequestHead, ReadsRequest, print_request, HasNoRequest}
 use Rattle.httparse.specs.Spans.{name_and_value, RequestOverflows, IsRequestAt, header_bytes}
 use Rattle.httparse.specs.declared.spans.HeaderSpan.{HeaderSpan}
 use Rattle.httparse.specs.declared.spans.RequestSpans.{RequestSpans}
-use Rattle.httparse.proofs.GrammarLemmas.{request_prefix_free}
-use Rattle.sp_rest.specs.Request.{IsHead, body_length}
+use Rattle.httparse.proofs.GrammarLemmas.{request_prefix_free, request_unique, ReadsRequest-append}
+use Rattle.sp_rest.specs.declared.request.Field.{Field}
+use Rattle.sp_rest.specs.declared.request.Request.{Request}
+use Rattle.sp_rest.specs.Request.{IsHead, body_length, Begins, NoRequest, NeverRequest, MayBecome, shown, IsRequestOf}
 use Rattle.sp_rest.specs.Heads.{NeverHead, IsHeadAt}
 
 -- a whole head that is too long
@@ -52,7 +55,7 @@ head_at bytes headers spans h len at short few body = (
     short = let e = at.len in omega arith;
     few =
         let e : length (take spans.headers headers) ≡ length h.fields =
-        sym (length-map (header_bytes bytes) (take spans.headers headers)) ∙ ap length at.fields ∙ length-map name_and_value h.fields in
+        sym (length-map (take spans.headers headers) (header_bytes bytes)) ∙ ap length at.fields ∙ length-map h.fields name_and_value in
         omega arith;
     body = sym (ap body_length at.fields) ∙ body;
   },

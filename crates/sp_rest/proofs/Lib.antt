@@ -1,3 +1,4 @@
 pub mod Codes
 pub mod Heads
 pub mod Lengths
+pub mod Requests

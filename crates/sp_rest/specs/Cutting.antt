@@ -1,8 +1,8 @@
 -- By cases on what was cut.
 use Rattle.std.specs.Prelude.{ℕ, ⊤}
 use Rattle.sp_rest.specs.declared.request.Request.{Request}
-use Rattle.sp_rest.specs.declared.cut.Cut.{Cut}
-use Rattle.sp_rest.specs.declared.cut.Cut.TheVariants.{Whole, Partial, Hopeless}
+use Rattle.sp_rest.specs.declared.request.Cut.{Cut}
+use Rattle.sp_rest.specs.declared.request.Cut.TheVariants.{Whole, Partial, Hopeless}
 
 -- P of the request and its length, where one is whole
 abbrev pub IfWhole : Cut → (Request → ℕ → Type 0) → Type 0

@@ -21,3 +21,14 @@ pub struct Request {
     /// As many bytes as the field Content-Length says, and none without it.
     pub body: Bytes,
 }
+
+/// What the front of some bytes is.
+#[derive(Debug, Drop)]
+pub enum Cut {
+    /// A whole request; `used` is its length in bytes, with its body.
+    Whole { request: Request, used: usize },
+    /// No request yet, but more bytes can make it one.
+    Partial,
+    /// No request, whatever bytes follow.
+    Hopeless,
+}
