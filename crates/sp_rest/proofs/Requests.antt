@@ -1,5 +1,5 @@
 -- Requests, from heads and bodies.
-use Rattle.std.proofs.Common.{replicate, inl, ◌-◌, [], ◌∷◌, length-append, length-take, append-nil, ◌+◌, ◌≡◌, ℕ, ◌<◌, ◌≤◌, List, ◌++◌, length, take, drop, map, sym, ap, ◌∙◌, subst, arith, take-append-drop, refl, Option, Some, None}
+use Rattle.std.proofs.Common.{append_assoc, replicate, inl, ◌-◌, [], ◌∷◌, length-append, length-take, append-nil, ◌+◌, ◌≡◌, ℕ, ◌<◌, ◌≤◌, List, ◌++◌, length, take, drop, map, sym, ap, ◌∙◌, subst, arith, take-append-drop, refl, Option, Some, None}
 use Rattle.std.specs.Prelude.{unwrap_or}
 use Rattle.std.proofs.lemmas.List.{take_at, take_all, length-replicate, length-drop}
 use Rattle.httparse.specs.Grammar.{RequestHead, ReadsRequest, print_request, HasNoRequest}
@@ -45,30 +45,31 @@ shown_of (p ∷ pairs) = ap (λ (ps : List (List ℕ × List ℕ)). p ∷ ps) (s
 abbrev pub request_of : RequestHead → List ℕ → Request
 request_of h body = record { method = h.method; target = h.target; fields = map field_of (map name_and_value h.fields); body = body }
 
+-- with these bytes and those that the body lacks a request is there
+pub may_become_by : (bytes s : List ℕ) (h : RequestHead) (len : ℕ) (rest : List ℕ) → IsHead (bytes ++ s) h len rest → MayBecome bytes
+may_become_by bytes s h len rest head =
+    let zeros = replicate len 0 in
+    let behind = rest ++ zeros in
+    let body = take len behind in
+    let sized : length body ≡ len = omega (arith, length-append rest zeros, length-replicate {A = ℕ} len 0, length-take len behind) in
+    let reads : ReadsRequest ((bytes ++ s) ++ zeros) h (body ++ drop len behind) = subst (ReadsRequest ((bytes ++ s) ++ zeros) h) (sym (take-append-drop len behind)) (ReadsRequest-append (bytes ++ s) h rest zeros head.reads) in
+    inl (s ++ zeros, request_of h body, length (print_request h) + length body, record {
+      h = h;
+      body = body;
+      rest = drop len behind;
+      head = record {
+        reads = subst (λ (t : List ℕ). ReadsRequest t h (body ++ drop len behind)) (append_assoc bytes s zeros) reads;
+        short = head.short;
+        few = head.few;
+        body = head.body ∙ ap (λ (n : ℕ). Some n) (sym sized);
+      };
+      request_is = record { method = refl; target = refl; fields = shown_of (map name_and_value h.fields); body_is = refl };
+      used_is = refl;
+    })
+
 -- the bytes that the body lacks can follow
-pub may_become : (bytes : List ℕ) (h : RequestHead) (len : ℕ) (rest : List ℕ) → IsHead bytes h len rest → length rest < len → MayBecome bytes
-may_become bytes h len rest head cut =
-    let more = replicate (len - length rest) 0 in
-    let body = rest ++ more in
-    let sized : length body ≡ len = omega (arith, length-append rest more, length-replicate {A = ℕ} (len - length rest) 0) in
-    inl (
-      more,
-      request_of h body,
-      length (print_request h) + length body,
-      record {
-        h = h;
-        body = body;
-        rest = [];
-        head = record {
-          reads = subst (ReadsRequest (bytes ++ more) h) (sym (append-nil body)) (ReadsRequest-append bytes h rest more head.reads);
-          short = head.short;
-          few = head.few;
-          body = head.body ∙ ap (λ (n : ℕ). Some n) (sym sized);
-        };
-        request_is = record { method = refl; target = refl; fields = shown_of (map name_and_value h.fields); body_is = refl };
-        used_is = refl;
-      },
-    )
+pub may_become : (bytes : List ℕ) (h : RequestHead) (len : ℕ) (rest : List ℕ) → IsHead bytes h len rest → MayBecome bytes
+may_become bytes h len rest head = may_become_by bytes [] h len rest (subst (λ (t : List ℕ). IsHead t h len rest) (sym (append-nil bytes)) head)
 
 -- a head and all of its body are a request
 pub begins : (bytes : List ℕ) (h : RequestHead) (len : ℕ) (rest : List ℕ) (request : Request) (used : ℕ) → IsHead bytes h len rest → len ≤ length rest

@@ -55,22 +55,22 @@ closes_empty before text room count s last good e short none =
     none [] last (All-nil IsField) (subst (λ (fs : List Field). IsGood (map name_and_value fs)) (sym (append-nil before)) good) e short (omega arith)
 
 -- within the line end of the last line or of a field
-ends_cut : (end : LineEnd) (x m : List ℕ) → print_end end ≡ x ++ m → 0 < length m → (x ≡ []) ⊎ ((x ≡ 13 ∷ []) × (end ≡ crlf))
+pub ends_cut : (end : LineEnd) (x m : List ℕ) → print_end end ≡ x ++ m → 0 < length m → (x ≡ []) ⊎ ((x ≡ 13 ∷ []) × (end ≡ crlf))
 ends_cut end [] m e some = inl refl
 ends_cut crlf (a ∷ []) m e some = inr (cc, refl)
 ends_cut lf (a ∷ []) m e some = let n = ap length e in absurd (omega arith)
 ends_cut crlf (a ∷ b ∷ x) m e some = let n = ap length e in absurd (omega (arith, length-append x m))
 ends_cut lf (a ∷ b ∷ x) m e some = let n = ap length e in absurd (omega (arith, length-append x m))
 
-All-front : (test : ℕ → Bool) (x m : List ℕ) → AllPass test (x ++ m) → AllPass test x
+pub All-front : (test : ℕ → Bool) (x m : List ℕ) → AllPass test (x ++ m) → AllPass test x
 All-front test [] m all = All-nil _
 All-front test (b ∷ x) m all = All-cons (λ v. test v ≡ true) b x (All-head (λ v. test v ≡ true) b (x ++ m) all) (All-front test x m (All-tail (λ v. test v ≡ true) b (x ++ m) all))
 
-end_size : (end : LineEnd) → 1 ≤ length (print_end end)
+pub end_size : (end : LineEnd) → 1 ≤ length (print_end end)
 end_size crlf = omega arith
 end_size lf = omega arith
 
-section_size : (fs : List Field) (last : LineEnd) → 1 ≤ length (print_section fs last)
+pub section_size : (fs : List Field) (last : LineEnd) → 1 ≤ length (print_section fs last)
 section_size fs last = omega (arith, length-append (flat_map print_field fs) (print_end last), end_size last)
 
 field_print : (f : Field) → print_field f ≡ f.name ++ (58 ∷ (f.raw ++ print_end f.end))

@@ -12,8 +12,7 @@ returns-then-rest-body-clause-none_yet c =
 pub returns-then-rest-body-clause-partial : goal.returns-then-rest-body-clause-partial
 returns-then-rest-body-clause-partial c =
     let head = c.requires.head in
-    let e = rest_is c.args.bytes.now c.args.spans.len in
-    may_become _ head.0 _ _ head.1 (subst (λ (t : List ℕ). length t < c.args.body) e c.if-rest-body.true)
+    may_become _ head.0 _ _ head.1
 
 pub returns-clause-whole : goal.returns-clause-whole
 returns-clause-whole c =
