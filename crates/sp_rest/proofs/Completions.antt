@@ -35,12 +35,17 @@ serves : (bytes s : List ℕ) (h : RequestHead) → IsRequestHead h → bytes ++
 serves bytes s h is e fits few good none =
     let whole : bytes ++ s ≡ print_request h = e ∙ sym (printed h) in
     let size : length (print_request h) ≡ length (bytes ++ s) = ap length (sym whole) in
-    none h good.0 [] (record {
-      reads = (is, whole ∙ sym (append-nil (print_request h)));
-      short = omega (arith, length-append bytes s);
-      few = few;
-      body = good.1;
-    })
+    none (
+      h,
+      good.0,
+      [],
+      record {
+        reads = (is, whole ∙ sym (append-nil (print_request h)));
+        short = omega (arith, length-append bytes s);
+        few = few;
+        body = good.1;
+      },
+    )
 
 empty_good : IsGood []
 empty_good = (0, refl)
@@ -91,7 +96,7 @@ in_line_end bytes es is fits none =
     serves bytes (codes "\nA / HTTP/1.1\n\n") (record { blank = es ++ crlf ∷ []; method = 65 ∷ []; target = 47 ∷ []; minor = 1; line_end = lf; fields = []; last = lf })
     (slash (es ++ crlf ∷ []) (65 ∷ []) short_method)
     (ap (λ (v : List ℕ). v ++ codes "\nA / HTTP/1.1\n\n") is ∙ append_assoc (print_blank es) (13 ∷ []) (codes "\nA / HTTP/1.1\n\n")
-        ∙ sym (ap (λ (v : List ℕ). v ++ codes "A / HTTP/1.1\n\n") (flat_map-append print_end es (crlf ∷ [])) ∙ append_assoc (print_blank es) (13 ∷ 10 ∷ []) (codes "A / HTTP/1.1\n\n")))
+    ∙ sym (ap (λ (v : List ℕ). v ++ codes "A / HTTP/1.1\n\n") (flat_map-append print_end es (crlf ∷ [])) ∙ append_assoc (print_blank es) (13 ∷ 10 ∷ []) (codes "A / HTTP/1.1\n\n")))
     fits (omega arith) empty_good none.in_line_end
 
 in_method : (bytes : List ℕ) (blank : List LineEnd) (method : List ℕ) → bytes ≡ print_blank blank ++ method → IsToken method → length bytes + 13 ≤ 8192 → NoTarget bytes → ⊥
@@ -125,11 +130,14 @@ version_cut bytes h z w is e cut some fits none = by_length (length z) refl
   where
     size : length z + length w ≡ 8
     size = let n : length (print_version h.minor) ≡ length (z ++ w) = ap length cut in omega (arith, length-append z w)
+
     front : (k : ℕ) → length z ≡ k → z ≡ take k (print_version h.minor)
     front k is_k = sym (take_at z w k is_k) ∙ sym (ap (take k) cut)
+
     one : (k : ℕ) (s : List ℕ) → length z ≡ k → length s + k ≡ 10 → take k (print_version h.minor) ++ s ≡ codes "HTTP/1.1\n\n" → IsUnserved bytes s → ⊥
     one k s is_k long whole unserved =
         in_version bytes h 1 lf z s is (omega arith) e (ap (λ (v : List ℕ). v ++ s) (front k is_k) ∙ whole) (let n = size in omega arith) unserved
+
     by_length : (k : ℕ) → length z ≡ k → ⊥
     by_length zero is_k = one 0 (codes "HTTP/1.1\n\n") is_k refl refl none.from_0
     by_length (suc zero) is_k = one 1 (codes "TTP/1.1\n\n") is_k refl refl none.from_1
@@ -190,13 +198,14 @@ in_fields bytes h m q come e cut none =
     })
   where
     regroup : (a b c d f q s : List ℕ) → (a ++ (b ++ (32 ∷ (c ++ (32 ∷ (d ++ (f ++ q))))))) ++ s ≡ a ++ (b ++ (32 ∷ (c ++ (32 ∷ (d ++ (f ++ (q ++ s)))))))
-    regroup a b c d f q s = simp (append_assoc, cons-append)
+    regroup a b c d f q s = simp append_assoc
+
     refuse : (s : List ℕ) → IsUnserved bytes s → Refuses [] q (length m) (length h.fields) s
     refuse s unserved gs last all good same short fewer =
         serves bytes s (record { blank = h.blank; method = h.method; target = h.target; minor = h.minor; line_end = h.line_end; fields = gs; last = last })
         (record { method = come.is.method; target = come.is.target; target_text = come.is.target_text; minor = come.is.minor; fields = all })
         (ap (λ (v : List ℕ). v ++ s) e ∙ regroup (print_blank h.blank) h.method h.target (print_version h.minor) (print_end h.line_end) q s
-            ∙ ap (λ (v : List ℕ). line h.blank h.method h.target h.minor h.line_end v) same)
+        ∙ ap (λ (v : List ℕ). line h.blank h.method h.target h.minor h.line_end v) same)
         (let fits = come.fits in omega arith) (let few = come.few in omega arith) good unserved
 
 -- behind the version
@@ -207,12 +216,12 @@ past_version bytes h m y come e cut none =
     elim (splits (print_end h.line_end) (print_section h.fields h.last) y m (sym cut)) [
       | inl t ↦ in_fields bytes h m t.0 come (e ∙ ap (λ (v : List ℕ). print_blank h.blank ++ (h.method ++ (32 ∷ (h.target ++ (32 ∷ (print_version h.minor ++ v)))))) t.1) t.2 none
       | inr t ↦
-        let size = ap length t.3 in
-        let two : length bytes + 2 ≤ 8192 = let fits = come.fits in omega (arith, length-append t.0 (print_section h.fields h.last), section_size h.fields h.last) in
-        elim (ends_cut h.line_end y t.0 t.1 t.2) [
-          | inl u ↦ closed lf (ap (λ (v : List ℕ). v ++ 10 ∷ 10 ∷ []) u) two
-          | inr u ↦ closed crlf (ap (λ (v : List ℕ). v ++ 10 ∷ 10 ∷ []) u.0) two
-        ]
+          let size = ap length t.3 in
+          let two : length bytes + 2 ≤ 8192 = let fits = come.fits in omega (arith, length-append t.0 (print_section h.fields h.last), section_size h.fields h.last) in
+          elim (ends_cut h.line_end y t.0 t.1 t.2) [
+            | inl u ↦ closed lf (ap (λ (v : List ℕ). v ++ 10 ∷ 10 ∷ []) u) two
+            | inr u ↦ closed crlf (ap (λ (v : List ℕ). v ++ 10 ∷ 10 ∷ []) u.0) two
+          ]
     ]
   where
     closed : (end : LineEnd) → y ++ 10 ∷ 10 ∷ [] ≡ print_end end ++ 10 ∷ [] → length bytes + 2 ≤ 8192 → ⊥
@@ -228,8 +237,8 @@ past_target bytes h m z come e cut none no_version =
     elim (splits (print_version h.minor) (after_version h) z m (sym cut)) [
       | inl t ↦ past_version bytes h m t.0 come (e ∙ ap (λ (v : List ℕ). print_blank h.blank ++ (h.method ++ (32 ∷ (h.target ++ (32 ∷ v))))) t.1) t.2 none
       | inr t ↦
-        let size = ap length t.3 in
-        version_cut bytes h z t.0 come.is e t.1 t.2 (let fits = come.fits in omega (arith, length-append t.0 (after_version h), version_size h)) no_version
+          let size = ap length t.3 in
+          version_cut bytes h z t.0 come.is e t.1 t.2 (let fits = come.fits in omega (arith, length-append t.0 (after_version h), version_size h)) no_version
     ]
 
 -- behind the method and its space
@@ -244,6 +253,7 @@ past_method bytes h m y come e cut outside none no_version =
   where
     ends : (v : List ℕ) → bytes ≡ print_blank h.blank ++ (h.method ++ (32 ∷ v)) → bytes ≡ print_blank h.blank ++ h.method ++ 32 ∷ v
     ends v is = is ∙ sym (append_assoc (print_blank h.blank) h.method (32 ∷ v))
+
     whole : (z : List ℕ) → y ≡ h.target ++ z → 32 ∷ after_target h ≡ z ++ m → ⊥
     whole [] is rest =
         outside (h.blank, h.method, h.target, come.is.method, come.is.target.1, ends h.target (e ∙ ap (λ (v : List ℕ). print_blank h.blank ++ (h.method ++ (32 ∷ v))) (is ∙ append-nil h.target)))
@@ -272,6 +282,7 @@ past_blank bytes h m x come e cut outside none no_version no_target =
         let long : 0 < length x = subst (λ (v : List ℕ). 0 < length v) (sym is) (omega arith) in
         in_method bytes h.blank x e (long, All-front is_token_byte x u (subst (AllPass is_token_byte) method come.is.method.1))
         (let fits = come.fits in omega (arith, length-append u (32 ∷ after_method h), method_size h come.is)) no_target
+
     whole : (y : List ℕ) → x ≡ h.method ++ y → 32 ∷ after_method h ≡ y ++ m → ⊥
     whole [] is rest =
         let size = ap length rest in
@@ -295,6 +306,7 @@ never_by bytes no_head outside none no_version no_target more h len rest head =
         before_method bytes es t (let fits = come.fits in omega (arith, length-append u (after_blank h), blank_size h come.is)) no_target
     in_blank u come (es, inr t) some size =
         in_line_end bytes es t (let fits = come.fits in omega (arith, length-append u (after_blank h), blank_size h come.is)) no_target
+
     from_front : (m : List ℕ) → print_request h ≡ bytes ++ m → 0 < length m → ⊥
     from_front m e some =
         let size : length (print_request h) ≡ length (bytes ++ m) = ap length e in

@@ -95,10 +95,13 @@ good_change ps name v w good given = by_test (is_size (name, v)) refl
   where
     before : IsGood ps
     before = good_front ps ((name, v) ∷ []) good
+
     none : (list_any is_encoding ps ≡ false) × ((is_encoding (name, v) || false) ≡ false)
     none = or_none (list_any is_encoding ps) (is_encoding (name, v) || false) (sym (list_any-append is_encoding ps ((name, v) ∷ [])) ∙ (good_parts (ps ++ (name, v) ∷ []) good).plain)
+
     plain : list_any is_encoding (ps ++ (name, w) ∷ []) ≡ false
     plain = list_any-append is_encoding ps ((name, w) ∷ []) ∙ rw (none.0, none.1) refl
+
     by_test : (t : Bool) → is_size (name, v) ≡ t → IsGood (ps ++ (name, w) ∷ [])
     by_test true size =
         let k = given size in

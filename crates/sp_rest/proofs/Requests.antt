@@ -1,14 +1,16 @@
 -- Requests, from heads and bodies.
-use Rattle.std.proofs.Common.{append_assoc, replicate, inl, ◌-◌, [], ◌∷◌, length-append, length-take, append-nil, ◌+◌, ◌≡◌, ℕ, ◌<◌, ◌≤◌, List, ◌++◌, length, take, drop, map, sym, ap, ◌∙◌, subst, arith, take-append-drop, refl, Option, Some, None}
+use Rattle.std.proofs.Common.{Bool, true, false, inr, append_assoc, replicate, inl, ◌-◌, [], ◌∷◌, length-append, length-take, append-nil, ◌+◌, ◌≡◌, ℕ, ◌<◌, ◌≤◌, List, ◌++◌, length, take, drop, map, sym, ap, ◌∙◌, subst, arith, take-append-drop, refl, Option, Some, None}
 use Rattle.std.specs.Prelude.{unwrap_or}
 use Rattle.std.proofs.lemmas.List.{take_at, take_all, length-replicate, length-drop}
-use Rattle.httparse.specs.Grammar.{RequestHead, ReadsRequest, print_request, HasNoRequest}
+use Rattle.httparse.specs.Grammar.{RequestHead, ReadsRequest, print_request, HasNoRequest, EndsInTarget}
 use Rattle.httparse.specs.Spans.{name_and_value}
 use Rattle.httparse.proofs.GrammarLemmas.{request_unique, ReadsRequest-append}
 use Rattle.sp_rest.specs.declared.request.Field.{Field}
 use Rattle.sp_rest.specs.declared.request.Request.{Request}
 use Rattle.sp_rest.specs.Request.{IsHead, body_length, Begins, NoRequest, NeverRequest, MayBecome, shown, IsRequestOf}
 use Rattle.sp_rest.specs.Heads.{NeverHead}
+use Rattle.sp_rest.specs.Completions.{HasHead, IsUnserved}
+use Rattle.std.specs.Bool.{MatchBool}
 use Rattle.sp_rest.specs.declared.request.Cut.{Cut}
 use Rattle.sp_rest.specs.declared.request.Cut.TheVariants.{Whole, Partial, Hopeless}
 use Rattle.sp_rest.specs.Cutting.{IfWhole, OnPartial, OnHopeless}
@@ -53,19 +55,24 @@ may_become_by bytes s h len rest head =
     let body = take len behind in
     let sized : length body ≡ len = omega (arith, length-append rest zeros, length-replicate {A = ℕ} len 0, length-take len behind) in
     let reads : ReadsRequest ((bytes ++ s) ++ zeros) h (body ++ drop len behind) = subst (ReadsRequest ((bytes ++ s) ++ zeros) h) (sym (take-append-drop len behind)) (ReadsRequest-append (bytes ++ s) h rest zeros head.reads) in
-    inl (s ++ zeros, request_of h body, length (print_request h) + length body, record {
-      h = h;
-      body = body;
-      rest = drop len behind;
-      head = record {
-        reads = subst (λ (t : List ℕ). ReadsRequest t h (body ++ drop len behind)) (append_assoc bytes s zeros) reads;
-        short = head.short;
-        few = head.few;
-        body = head.body ∙ ap (λ (n : ℕ). Some n) (sym sized);
-      };
-      request_is = record { method = refl; target = refl; fields = shown_of (map name_and_value h.fields); body_is = refl };
-      used_is = refl;
-    })
+    inl (
+      s ++ zeros,
+      request_of h body,
+      length (print_request h) + length body,
+      record {
+        h = h;
+        body = body;
+        rest = drop len behind;
+        head = record {
+          reads = subst (λ (t : List ℕ). ReadsRequest t h (body ++ drop len behind)) (append_assoc bytes s zeros) reads;
+          short = head.short;
+          few = head.few;
+          body = head.body ∙ ap (λ (n : ℕ). Some n) (sym sized);
+        };
+        request_is = record { method = refl; target = refl; fields = shown_of (map name_and_value h.fields); body_is = refl };
+        used_is = refl;
+      },
+    )
 
 -- the bytes that the body lacks can follow
 pub may_become : (bytes : List ℕ) (h : RequestHead) (len : ℕ) (rest : List ℕ) → IsHead bytes h len rest → MayBecome bytes
@@ -129,3 +136,19 @@ found_is bytes Hopeless whole partial hopeless request used b =
 -- what follows the first k bytes, as the code takes it
 pub rest_is : (bytes : List ℕ) (k : ℕ) → take (length bytes - k) (drop k bytes) ≡ drop k bytes
 rest_is bytes k = take_all (length bytes - k) (drop k bytes) (omega (arith, length-drop k bytes))
+
+-- what can never come is told, unless the bytes end within the target
+pub never_is : (bytes : List ℕ) (cut : Cut) → IfWhole cut (Begins bytes) → OnPartial cut (MayBecome bytes) → NeverRequest bytes → ¬ (EndsInTarget bytes) → cut ≡ Hopeless
+never_is bytes (Whole r m) whole partial never outside = absurd (subst NoRequest (append-nil bytes) (never []) r m whole)
+never_is bytes Partial whole (inl more) never outside = absurd (never more.0 more.1 more.2 more.3)
+never_is bytes Partial whole (inr ends) never outside = absurd (outside ends)
+never_is bytes Hopeless whole partial never outside = refl
+
+-- where none ever is, none is now
+pub no_head_now : (bytes : List ℕ) → NeverHead bytes → ¬ (HasHead bytes)
+no_head_now bytes never x = never [] x.0 x.1 x.2 (subst (λ (t : List ℕ). IsHead t x.0 x.1 x.2) (sym (append-nil bytes)) x.3)
+
+-- what the test of a longer text says of its front
+pub served : (b : Bool) (bytes s whole : List ℕ) → whole ≡ bytes ++ s → MatchBool b (HasHead whole) (¬ (HasHead whole)) → MatchBool b (MayBecome bytes) (IsUnserved bytes s)
+served true bytes s whole is x = may_become_by bytes s x.0 x.1 x.2 (subst (λ (t : List ℕ). IsHead t x.0 x.1 x.2) is x.3)
+served false bytes s whole is none = subst (λ (t : List ℕ). ¬ (HasHead t)) is none

@@ -102,6 +102,7 @@ name_cut before text room count good token few wide wider none = by_tests (is_en
         } in
         closes_with before text room count (120 ∷ 58 ∷ 10 ∷ 10 ∷ []) g lf field (good_push (map name_and_value before) (name_and_value g) good other.0 other.1)
         (line_closed (text ++ 120 ∷ []) [] lf text (120 ∷ 58 ∷ 10 ∷ 10 ∷ []) (sym (append_assoc text (120 ∷ []) (58 ∷ 10 ∷ 10 ∷ [])))) (wider either) few none.letter
+
     by_tests : (a b : Bool) → is_encoding (text, []) ≡ a → is_size (text, []) ≡ b → ⊥
     by_tests true b e f = named (inl e)
     by_tests false true e f = named (inr f)
@@ -120,12 +121,14 @@ value_cut before f r m room count field good e few wide none = by_test (is_size 
   where
     front : AllPass is_value_byte r
     front = All-front is_value_byte r m (subst (AllPass is_value_byte) e field.raw)
+
     as_it_is : (is_size (name_and_value f) ≡ true → IsLength (trim_ows r)) → ⊥
     as_it_is given =
         let g : Field = record { name = f.name; raw = r; end = lf } in
         closes_with before (f.name ++ (58 ∷ r)) room count (10 ∷ 10 ∷ []) g lf (record { name = field.name; raw = front })
         (good_change (map name_and_value before) f.name (field_value f) (field_value g) good given)
         (line_closed f.name r lf (f.name ++ (58 ∷ r)) (10 ∷ 10 ∷ []) (value_closed f.name r (10 ∷ 10 ∷ []))) (omega arith) few none.two_ends
+
     with_digit : IsLength (trim_ows (r ++ 48 ∷ [])) → ⊥
     with_digit k =
         let g : Field = record { name = f.name; raw = r ++ 48 ∷ []; end = lf } in
@@ -133,6 +136,7 @@ value_cut before f r m room count field good e few wide none = by_test (is_size 
         (record { name = field.name; raw = All-append (λ v. is_value_byte v ≡ true) r (48 ∷ []) front (All-cons (λ v. is_value_byte v ≡ true) 48 [] refl (All-nil _)) })
         (good_change (map name_and_value before) f.name (field_value f) (field_value g) good (λ _. k))
         (line_closed f.name (r ++ 48 ∷ []) lf (f.name ++ (58 ∷ r)) (48 ∷ 10 ∷ 10 ∷ []) (value_closed f.name r (48 ∷ 10 ∷ 10 ∷ []) ∙ ap (λ (t : List ℕ). f.name ++ (58 ∷ t)) (sym (append_assoc r (48 ∷ []) (10 ∷ 10 ∷ []))))) wide few none.zero
+
     by_test : (t : Bool) → is_size (name_and_value f) ≡ t → ⊥
     by_test false other = as_it_is (λ is. absurd (cc))
     by_test true size =
@@ -180,10 +184,12 @@ field_cut before f text m room count field good e some few wide none =
   where
     before_good : IsGood (map name_and_value before)
     before_good = good_front (map name_and_value before) (name_and_value f ∷ []) good
+
     line_size : (u : List ℕ) → m ≡ u ++ (58 ∷ (f.raw ++ print_end f.end)) → length u + 2 + length f.raw ≤ length m
     line_size u is =
         let size : length m ≡ length (u ++ (58 ∷ (f.raw ++ print_end f.end))) = ap length is in
         omega (arith, length-append u (58 ∷ (f.raw ++ print_end f.end)), length-append f.raw (print_end f.end), end_size f.end)
+
     in_name : (x u : List ℕ) → text ≡ x → f.name ≡ text ++ u → 0 < length u → m ≡ u ++ (58 ∷ (f.raw ++ print_end f.end)) → ⊥
     in_name [] u is name more rest =
         closes_empty before text room count (10 ∷ []) lf before_good (ap (λ (v : List ℕ). v ++ 10 ∷ []) is) (omega arith) none.end
@@ -192,6 +198,7 @@ field_cut before f text m room count field good e some few wide none =
         let long : 0 < length text = subst (λ (v : List ℕ). 0 < length v) (sym is) (omega arith) in
         let token : IsToken text = (long, All-front is_token_byte text u (subst (AllPass is_token_byte) name field.name.1)) in
         name_cut before text room count before_good token few (omega arith) (λ _. omega arith) none
+
     past_name : (u : List ℕ) → text ≡ f.name ++ u → 58 ∷ (f.raw ++ print_end f.end) ≡ u ++ m → ⊥
     past_name [] is rest =
         let name : text ≡ f.name = is ∙ append-nil f.name in
@@ -226,25 +233,28 @@ section_cut before [] last text m room count all good e some wide size none =
 section_cut before (f ∷ fs) last text m room count all good e some wide size none =
     elim (splits (print_field f) (print_section fs last) text m (sym e ∙ section_cons f fs last)) [
       | inl t ↦
-        let at : NoneCloses before (print_field f ++ t.0) room count = subst (λ (v : List ℕ). NoneCloses before v room count) t.1 none in
-        section_cut (before ++ f ∷ []) fs last t.0 m room (length fs) later (subst (λ (gs : List Field). IsGood (map name_and_value gs)) (sym (append_assoc before (f ∷ []) fs)) good) t.2 some wide refl
-        (record {
-          end = refuses_next before f t.0 room (length fs) count (10 ∷ []) field one at.end;
-          two_ends = refuses_next before f t.0 room (length fs) count (10 ∷ 10 ∷ []) field one at.two_ends;
-          zero = refuses_next before f t.0 room (length fs) count (48 ∷ 10 ∷ 10 ∷ []) field one at.zero;
-          colon = refuses_next before f t.0 room (length fs) count (58 ∷ 10 ∷ 10 ∷ []) field one at.colon;
-          letter = refuses_next before f t.0 room (length fs) count (120 ∷ 58 ∷ 10 ∷ 10 ∷ []) field one at.letter;
-        })
+          let at : NoneCloses before (print_field f ++ t.0) room count = subst (λ (v : List ℕ). NoneCloses before v room count) t.1 none in
+          section_cut (before ++ f ∷ []) fs last t.0 m room (length fs) later (subst (λ (gs : List Field). IsGood (map name_and_value gs)) (sym (append_assoc before (f ∷ []) fs)) good) t.2 some wide refl
+          (record {
+            end = refuses_next before f t.0 room (length fs) count (10 ∷ []) field one at.end;
+            two_ends = refuses_next before f t.0 room (length fs) count (10 ∷ 10 ∷ []) field one at.two_ends;
+            zero = refuses_next before f t.0 room (length fs) count (48 ∷ 10 ∷ 10 ∷ []) field one at.zero;
+            colon = refuses_next before f t.0 room (length fs) count (58 ∷ 10 ∷ 10 ∷ []) field one at.colon;
+            letter = refuses_next before f t.0 room (length fs) count (120 ∷ 58 ∷ 10 ∷ 10 ∷ []) field one at.letter;
+          })
       | inr t ↦
-        let n = ap length t.3 in
-        field_cut before f text t.0 room count field first_good t.1 t.2 (omega arith) (omega (arith, length-append t.0 (print_section fs last), section_size fs last)) none
+          let n = ap length t.3 in
+          field_cut before f text t.0 room count field first_good t.1 t.2 (omega arith) (omega (arith, length-append t.0 (print_section fs last), section_size fs last)) none
     ]
   where
     field : IsField f
     field = All-head IsField f fs all
+
     later : All IsField fs
     later = All-tail IsField f fs all
+
     one : count ≡ length fs + 1
     one = omega arith
+
     first_good : IsGood (map name_and_value before ++ name_and_value f ∷ [])
     first_good = subst IsGood (map_append before (f ∷ [])) (good_front (map name_and_value (before ++ f ∷ [])) (map name_and_value fs) (subst IsGood (map_append (before ++ f ∷ []) fs) (subst (λ (gs : List Field). IsGood (map name_and_value gs)) (sym (append_assoc before (f ∷ []) fs)) good)))

@@ -91,5 +91,5 @@ ends_in_target bytes (inl (more, h, reads)) is =
     let behind = h.target ++ 32 ∷ [] in
     let whole = sym (ap (λ (t : List ℕ). t ++ more) cut.2 ∙ append_assoc cut.0 (32 ∷ cut.1) more) ∙ reads.1 ∙ print_request-append h [] ∙ sym (append_assoc (print_blank h.blank) h.method _) in
     let same = run_unique is_solid cut.0 (print_blank h.blank ++ h.method) _ _ cut.3
-        (All-append (λ v. is_solid v ≡ true) (print_blank h.blank) h.method (blank_solid h.blank) (method_solid h.method reads.0.method.1)) refl refl whole in
+    (All-append (λ v. is_solid v ≡ true) (print_blank h.blank) h.method (blank_solid h.blank) (method_solid h.method reads.0.method.1)) refl refl whole in
     (h.blank, h.method, cut.1, reads.0.method, cut.4, cut.2 ∙ ap (λ (x : List ℕ). x ++ 32 ∷ cut.1) same.0)

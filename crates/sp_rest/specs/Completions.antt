@@ -3,9 +3,13 @@ use Rattle.std.specs.Prelude.{ℕ, List, ◌++◌, codes}
 use Rattle.httparse.specs.Grammar.{RequestHead}
 use Rattle.sp_rest.specs.Request.{IsHead}
 
+-- a head within the limits is there
+abbrev pub HasHead : List ℕ → Type 0
+HasHead bytes = (h : RequestHead) × (len : ℕ) × (rest : List ℕ) × IsHead bytes h len rest
+
 -- with these bytes behind them, no prefix is a head within the limits
 abbrev pub IsUnserved : List ℕ → List ℕ → Type 0
-IsUnserved bytes more = (h : RequestHead) (len : ℕ) (rest : List ℕ) → ¬ (IsHead (bytes ++ more) h len rest)
+IsUnserved bytes more = ¬ (HasHead (bytes ++ more))
 
 -- none of the texts that end the fields serves
 pub record NoFieldsEnd (bytes : List ℕ) : Type 0 where

@@ -1,10 +1,10 @@
 -- Which bytes are a request (RFC 9112), within the limits that are kept here.
-use Rattle.std.specs.Prelude.{◌≡◌, ℕ, ◌+◌, ◌<◌, ◌≤◌, ◌&&◌, ◌⊎◌, Bool, List, [], ◌∷◌, ◌++◌, length, map, codes, if◌then◌else◌, nat_lt, nat_le, Option, Some, None}
+use Rattle.std.specs.Prelude.{◌≡◌, ℕ, ◌+◌, ◌≤◌, ◌&&◌, ◌⊎◌, Bool, List, [], ◌∷◌, ◌++◌, length, map, codes, if◌then◌else◌, nat_lt, nat_le, Option, Some, None}
 use Rattle.std.specs.List.{filter, list_any, list_all}
 use Rattle.std.specs.Char.{is_ascii_digit}
 use Rattle.std.specs.Str.{str_eq_ignore_ascii_case, all_ascii_digits}
 use Rattle.std.specs.Str.Parse.{digits_value}
-use Rattle.httparse.specs.Grammar.{RequestHead, ReadsRequest, print_request, EndsInTarget, MayBecomeRequest}
+use Rattle.httparse.specs.Grammar.{RequestHead, ReadsRequest, print_request, EndsInTarget}
 use Rattle.httparse.specs.Spans.{name_and_value}
 use Rattle.sp_rest.specs.declared.request.Field.{Field}
 use Rattle.sp_rest.specs.declared.request.Request.{Request}
@@ -74,7 +74,3 @@ abbrev pub MayBecome : List ℕ → Type 0
 MayBecome bytes =
     ((more : List ℕ) × (request : Request) × (used : ℕ) × Begins (bytes ++ more) request used)
     ⊎ EndsInTarget bytes
-
--- a head can still come as far as the grammar and the bytes that are there go
-abbrev pub HeadMayCome : List ℕ → Type 0
-HeadMayCome bytes = MayBecomeRequest bytes × (length bytes < 8192)

@@ -1,12 +1,13 @@
-ghost use Rattle.std.specs.Prelude.{◌≡◌, ◌⊎◌, ℕ, IfOk, All, length, map};
-ghost use Rattle.httparse.specs.Grammar.{RequestHead, HasNoRequest};
+ghost use Rattle.std.specs.Prelude.{◌≡◌, ℕ, IfOk, All, length, map};
+ghost use Rattle.httparse.specs.Grammar.{RequestHead, HasNoRequest, MayBecomeRequest, EndsInTarget};
 ghost use Rattle.httparse.specs.Spans.{IsRequestAt, IsRequestWithin, IsSectionWithin, header_bytes, IsHeaderWithin};
-ghost use Rattle.sp_rest.specs.Request.{HeadMayCome, Begins, NoRequest, NeverRequest, MayBecome, shown, IsRequestOf};
+ghost use Rattle.sp_rest.specs.Request.{Begins, NoRequest, NeverRequest, MayBecome, shown, IsRequestOf};
 ghost use Rattle.sp_rest.specs.Cutting.{IfWhole, OnPartial, OnHopeless};
 ghost use Rattle.sp_rest.specs.Heads.{IsHeadAt};
 ghost use Rattle.sp_rest.specs.declared.request.Request.{Request};
-ghost use Rattle.sp_rest.specs.declared.request.Cut.TheVariants.{Whole};
+ghost use Rattle.sp_rest.specs.declared.request.Cut.TheVariants.{Whole, Hopeless};
 
+use crate::completion::may_become;
 use crate::head::{Front, read_head};
 use crate::request::{Cut, Field, Request};
 use httparse::spans::{EMPTY_HEADER_SPAN, HeaderSpan, RequestSpans};
@@ -23,8 +24,10 @@ pub fn cut(alloc: Global, bytes: &[u8]) -> Result<Cut, Memory>
     ensures whole { IfOk result (λ cut. IfWhole cut (Begins bytes.now)) }
     ensures found { (request : Request) (used : ℕ) → Begins bytes.now request used → IfOk result (λ cut. cut ≡ Whole request used) }
     ensures none_yet { IfOk result (λ cut. OnPartial cut (NoRequest bytes.now)) }
-    ensures partial { IfOk result (λ cut. OnPartial cut (MayBecome bytes.now ⊎ HeadMayCome bytes.now)) }
+    ensures partial { IfOk result (λ cut. OnPartial cut (MayBecome bytes.now)) }
     ensures hopeless { IfOk result (λ cut. OnHopeless cut (NeverRequest bytes.now)) }
+    // Bytes that end within the target may be told to be unfinished although no request can come.
+    ensures never { NeverRequest bytes.now → ¬ (EndsInTarget bytes.now) → IfOk result (λ cut. cut ≡ Hopeless) }
 {
     match cut_front(alloc, bytes) {
         Ok(cut) => Ok(cut),
@@ -35,14 +38,29 @@ pub fn cut(alloc: Global, bytes: &[u8]) -> Result<Cut, Memory>
 fn cut_front(alloc: Global, bytes: &[u8]) -> Result<Cut, AllocError>
     ensures whole { IfOk result (λ cut. IfWhole cut (Begins bytes.now)) }
     ensures none_yet { IfOk result (λ cut. OnPartial cut (NoRequest bytes.now)) }
-    ensures partial { IfOk result (λ cut. OnPartial cut (MayBecome bytes.now ⊎ HeadMayCome bytes.now)) }
+    ensures partial { IfOk result (λ cut. OnPartial cut (MayBecome bytes.now)) }
     ensures hopeless { IfOk result (λ cut. OnHopeless cut (NeverRequest bytes.now)) }
 {
     let mut room = [EMPTY_HEADER_SPAN; 64];
     match read_head(bytes, &mut room) {
         Front::Head { spans, body } => with_body(alloc, bytes, &room, spans, body),
-        Front::Unfinished => Ok(Cut::Partial),
+        Front::Unfinished => unfinished(alloc, bytes),
         Front::Never => Ok(Cut::Hopeless),
+    }
+}
+
+fn unfinished(alloc: Global, bytes: &[u8]) -> Result<Cut, AllocError>
+    requires unread { HasNoRequest bytes.now }
+    requires open_yet { MayBecomeRequest bytes.now }
+    ensures whole { IfOk result (λ cut. IfWhole cut (Begins bytes.now)) }
+    ensures none_yet { IfOk result (λ cut. OnPartial cut (NoRequest bytes.now)) }
+    ensures partial { IfOk result (λ cut. OnPartial cut (MayBecome bytes.now)) }
+    ensures hopeless { IfOk result (λ cut. OnHopeless cut (NeverRequest bytes.now)) }
+{
+    if may_become(alloc, bytes)? {
+        Ok(Cut::Partial)
+    } else {
+        Ok(Cut::Hopeless)
     }
 }
 

@@ -1,9 +1,8 @@
 // The head of a request, within the limits.
 ghost use Rattle.std.specs.Prelude.{◌≡◌, length};
-ghost use Rattle.httparse.specs.Grammar.{HasNoRequest};
+ghost use Rattle.httparse.specs.Grammar.{HasNoRequest, MayBecomeRequest};
 ghost use Rattle.httparse.specs.Spans.{IsRequestOf, IsRequestWithin};
 ghost use Rattle.sp_rest.specs.Fronts.{IfHead, OnUnfinished, OnNever};
-ghost use Rattle.sp_rest.specs.Request.{HeadMayCome};
 ghost use Rattle.sp_rest.specs.Heads.{IsHeadAt, NeverHead};
 
 use crate::length::body_length;
@@ -14,6 +13,7 @@ use httparse::spans::{HeaderSpan, RequestSpans, parse_request};
 const MOST: usize = 8192;
 
 /// What the front of some bytes is, as far as the head goes.
+#[derive(Drop)]
 pub enum Front {
     /// A head, and the length of the body that it gives.
     Head { spans: RequestSpans, body: u64 },
@@ -29,7 +29,7 @@ pub fn read_head(bytes: &[u8], room: &mut [HeaderSpan]) -> Front
     ensures head { IfHead result (IsHeadAt bytes.now room.new) }
     ensures within { IfHead result (λ spans _. IsRequestWithin bytes.now room.new spans) }
     ensures unfinished { OnUnfinished result (HasNoRequest bytes.now) }
-    ensures may_come { OnUnfinished result (HeadMayCome bytes.now) }
+    ensures open_yet { OnUnfinished result (MayBecomeRequest bytes.now) }
     ensures never { OnNever result (NeverHead bytes.now) }
 {
     match parse_request(bytes, room) {
