@@ -1,0 +1,10 @@
+pub mod Codes
+pub mod Completions
+pub mod Fields
+pub mod Heads
+pub mod Lengths
+pub mod Requests
+pub mod Sections
+pub mod Splits
+pub mod Targets
+pub mod Trims

@@ -1,0 +1,9 @@
+use Rattle.std.proofs.Common.{◌≡◌}
+use Rattle.sp_rest.proofs.Requests.{found_is, never_is}
+use Rattle.sp_rest.proofs.cut.cut.Goals as goal
+
+pub returns-in-Ok-clause-found : goal.returns-in-Ok-clause-found
+returns-in-Ok-clause-found c = found_is c.args.bytes.now c.in-Ok.cut c.in-Ok.ensures.whole c.in-Ok.ensures.none_yet c.in-Ok.ensures.hopeless
+
+pub returns-in-Ok-clause-never : goal.returns-in-Ok-clause-never
+returns-in-Ok-clause-never c = never_is c.args.bytes.now c.in-Ok.cut c.in-Ok.ensures.whole c.in-Ok.ensures.partial

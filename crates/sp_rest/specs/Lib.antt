@@ -1,0 +1,8 @@
+pub mod Codes
+pub mod Completions
+pub mod Cutting
+pub mod Fronts
+pub mod Heads
+pub mod Request
+pub mod Response
+pub mod Targets
