@@ -88,18 +88,28 @@ fn nesting_of_127_levels_is_read(rt: HostRuntime) -> Result<(), Fail> {
     Ok(())
 }
 
+fn provisions(ask: &Ask, name: &str) -> bool {
+    match ask {
+        Ask::Do(Event::Provision { endpoint }) => endpoint.as_str() == name,
+        _ => false,
+    }
+}
+
+fn tallies_all(ask: &Ask) -> bool {
+    match ask {
+        Ask::Look(Query::Tally { endpoint }) => endpoint.is_none(),
+        _ => false,
+    }
+}
+
 #[test]
 fn a_key_given_twice_has_its_last_value(rt: HostRuntime) -> Result<(), Fail> {
     let alloc = rt.alloc();
     let bytes = b"{\"op\":\"provision\",\"endpoint\":5,\"endpoint\":\"q\\u0031\"}";
-    match read(alloc, bytes)? {
-        Ask::Do(Event::Provision { endpoint }) => assert!(rt; endpoint.as_str() == "q1"),
-        _ => assert!(rt; false, "another request"),
-    }
-    match read(alloc, b"{\"op\":\"tally\"}")? {
-        Ask::Look(Query::Tally { endpoint }) => assert!(rt; endpoint.is_none()),
-        _ => assert!(rt; false, "another request"),
-    }
+    let ask = read(alloc, bytes)?;
+    assert!(rt; provisions(&ask, "q1"));
+    let ask = read(alloc, b"{\"op\":\"tally\"}")?;
+    assert!(rt; tallies_all(&ask));
     Ok(())
 }
 
