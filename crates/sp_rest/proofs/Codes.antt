@@ -1,6 +1,5 @@
 -- Codes of answers have three digits.
-use Rattle.std.proofs.Common.{◌≡◌, ℕ, ◌<◌, ◌≤◌, Bool, true, ◌==◌, ◌||◌, inl, inr, arith, IsTrue}
-use Rattle.std.proofs.lemmas.Bool.{or_cases, eqb-true}
+use Rattle.std.proofs.Common.{ℕ, arith, IsTrue}
 use Rattle.http.specs.StatusCode.{IsStatusCode}
 use Rattle.sp_rest.specs.Codes.{is_answer_code}
 

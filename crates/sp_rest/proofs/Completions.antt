@@ -1,21 +1,18 @@
 -- Where any bytes make a head of those that are there, one of a few short texts does.
-use Rattle.std.proofs.Common.{◌≡◌, true, ℕ, zero, suc, ◌+◌, ◌<◌, ◌≤◌, ◌⊎◌, inl, inr, List, [], ◌∷◌, ◌++◌, length, length-append, take, map, refl, sym, ap, ◌∙◌, subst, arith, rules, append-nil, append_assoc, Some, codes}
-use Rattle.std.specs.Prelude.{All}
-use Rattle.std.specs.List.{flat_map}
+use Rattle.std.proofs.Common.{◌≡◌, true, ℕ, zero, suc, ◌+◌, ◌<◌, ◌≤◌, ◌⊎◌, inl, inr, List, [], ◌∷◌, ◌++◌, length, length-append, take, map, refl, sym, ap, ◌∙◌, subst, arith, append-nil, append_assoc, codes}
 use Rattle.std.proofs.lemmas.List.{take_at}
 use Rattle.std.proofs.lemmas.Grind.{flat_map-append}
 use Rattle.std.proofs.lemmas.Str.{IsUtf8-from_ascii}
 use Rattle.std.proofs.lemmas.Str.Ascii.{IsAscii-cons, IsAscii-nil}
-use Rattle.std.proofs.lemmas.List.Elements.{All-head, All-tail, All-cons, All-nil, All-append}
-use Rattle.httparse.specs.Grammar.{LineEnd, crlf, lf, print_end, print_blank, print_version, Field, IsField, IsToken, AllPass, is_token_byte, is_uri_byte, print_section, RequestHead, IsRequestHead, print_request, HasNoRequest, EndsInTarget}
+use Rattle.std.proofs.lemmas.List.Elements.{All-cons, All-nil}
+use Rattle.httparse.specs.Grammar.{LineEnd, crlf, lf, print_end, print_blank, print_version, IsField, IsToken, AllPass, is_token_byte, is_uri_byte, print_section, RequestHead, IsRequestHead, print_request, HasNoRequest, EndsInTarget}
 use Rattle.httparse.specs.Spans.{name_and_value}
 use Rattle.httparse.proofs.GrammarLemmas.{cons-append}
-use Rattle.sp_rest.specs.Request.{IsHead, body_length}
 use Rattle.sp_rest.specs.Heads.{NeverHead}
 use Rattle.sp_rest.specs.Completions.{IsUnserved, NoFieldsEnd, NoVersionEnd, NoTarget}
 use Rattle.sp_rest.proofs.Splits.{splits}
 use Rattle.sp_rest.proofs.Fields.{IsGood}
-use Rattle.sp_rest.proofs.Sections.{NoneCloses, Refuses, section_cut, section_size, ends_cut, end_size, All-front}
+use Rattle.sp_rest.proofs.Sections.{Refuses, section_cut, section_size, ends_cut, end_size, All-front}
 
 -- the bytes of a line, and what follows it
 abbrev pub line : List LineEnd → List ℕ → List ℕ → ℕ → LineEnd → List ℕ → List ℕ
@@ -174,6 +171,10 @@ blank_size : (h : RequestHead) → IsRequestHead h → 14 ≤ length (after_blan
 blank_size h is =
     let some = is.method.0 in
     omega (arith, length-append h.method (32 ∷ after_method h), method_size h is)
+
+-- a head is no less than this
+pub print_size : (h : RequestHead) → IsRequestHead h → 14 ≤ length (print_request h)
+print_size h is = let size = ap length (printed h) in omega (arith, length-append (print_blank h.blank) (after_blank h), blank_size h is)
 
 -- a head that would come, its front being there
 pub record Coming (bytes : List ℕ) (h : RequestHead) (m : List ℕ) : Type 0 where

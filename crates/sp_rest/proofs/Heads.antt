@@ -1,15 +1,12 @@
 -- What follows doesn't change the head, so what breaks a limit breaks it for good.
-use Rattle.std.proofs.Common.{replicate, inl, ◌-◌, [], ◌∷◌, length-append, length-take, append_assoc, append-nil, ◌+◌, ◌≡◌, ℕ, ◌<◌, ◌≤◌, List, ◌++◌, length, take, drop, map, sym, ap, ◌∙◌, subst, arith, take-append-drop, refl, Option, Some, None}
-use Rattle.std.proofs.lemmas.List.{take-append-le, take_at, length-map, length-replicate}
-use Rattle.std.specs.Prelude.{unwrap_or}
+use Rattle.std.proofs.Common.{◌≡◌, ℕ, ◌<◌, ◌≤◌, List, ◌++◌, length, take, drop, map, sym, ap, ◌∙◌, arith, take-append-drop, refl, Some, None}
+use Rattle.std.proofs.lemmas.List.{take-append-le, take_at, length-map}
 use Rattle.httparse.specs.Grammar.{RequestHead, ReadsRequest, print_request, HasNoRequest}
 use Rattle.httparse.specs.Spans.{name_and_value, RequestOverflows, IsRequestAt, header_bytes}
 use Rattle.httparse.specs.declared.spans.HeaderSpan.{HeaderSpan}
 use Rattle.httparse.specs.declared.spans.RequestSpans.{RequestSpans}
-use Rattle.httparse.proofs.GrammarLemmas.{request_prefix_free, request_unique, ReadsRequest-append}
-use Rattle.sp_rest.specs.declared.request.Field.{Field}
-use Rattle.sp_rest.specs.declared.request.Request.{Request}
-use Rattle.sp_rest.specs.Request.{IsHead, body_length, Begins, NoRequest, NeverRequest, MayBecome, shown, IsRequestOf}
+use Rattle.httparse.proofs.GrammarLemmas.{request_prefix_free}
+use Rattle.sp_rest.specs.Request.{body_length}
 use Rattle.sp_rest.specs.Heads.{NeverHead, IsHeadAt}
 
 -- a whole head that is too long

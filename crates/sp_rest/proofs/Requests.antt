@@ -1,5 +1,5 @@
 -- Requests, from heads and bodies.
-use Rattle.std.proofs.Common.{Bool, true, false, inr, append_assoc, replicate, inl, ◌-◌, [], ◌∷◌, length-append, length-take, append-nil, ◌+◌, ◌≡◌, ℕ, ◌<◌, ◌≤◌, List, ◌++◌, length, take, drop, map, sym, ap, ◌∙◌, subst, arith, take-append-drop, refl, Option, Some, None}
+use Rattle.std.proofs.Common.{Bool, true, false, inr, append_assoc, replicate, inl, ◌-◌, [], ◌∷◌, length-append, length-take, append-nil, ◌+◌, ◌≡◌, ℕ, ◌<◌, ◌≤◌, List, ◌++◌, length, take, drop, map, sym, ap, ◌∙◌, subst, arith, take-append-drop, refl, Some}
 use Rattle.std.specs.Prelude.{unwrap_or}
 use Rattle.std.proofs.lemmas.List.{take_at, take_all, length-replicate, length-drop}
 use Rattle.httparse.specs.Grammar.{RequestHead, ReadsRequest, print_request, HasNoRequest, EndsInTarget}
@@ -8,6 +8,7 @@ use Rattle.httparse.proofs.GrammarLemmas.{request_unique, ReadsRequest-append}
 use Rattle.sp_rest.specs.declared.request.Field.{Field}
 use Rattle.sp_rest.specs.declared.request.Request.{Request}
 use Rattle.sp_rest.specs.Request.{IsHead, body_length, Begins, NoRequest, NeverRequest, MayBecome, shown, IsRequestOf}
+use Rattle.sp_rest.proofs.Completions.{print_size}
 use Rattle.sp_rest.specs.Heads.{NeverHead}
 use Rattle.sp_rest.specs.Completions.{HasHead, IsUnserved}
 use Rattle.std.specs.Bool.{MatchBool}
@@ -152,3 +153,12 @@ no_head_now bytes never x = never [] x.0 x.1 x.2 (subst (λ (t : List ℕ). IsHe
 pub served : (b : Bool) (bytes s whole : List ℕ) → whole ≡ bytes ++ s → MatchBool b (HasHead whole) (¬ (HasHead whole)) → MatchBool b (MayBecome bytes) (IsUnserved bytes s)
 served true bytes s whole is x = may_become_by bytes s x.0 x.1 x.2 (subst (λ (t : List ℕ). IsHead t x.0 x.1 x.2) is x.3)
 served false bytes s whole is none = subst (λ (t : List ℕ). ¬ (HasHead t)) is none
+
+-- a request has bytes, and they are there
+pub used_within : (bytes : List ℕ) (cut : Cut) → IfWhole cut (Begins bytes) → IfWhole cut (λ _ used. (0 < used) × (used ≤ length bytes))
+used_within bytes (Whole request used) b =
+    let size : length bytes ≡ length (print_request b.h ++ (b.body ++ b.rest)) = ap length b.head.reads.1 in
+    let is = b.used_is in
+    (omega (arith, print_size b.h b.head.reads.0), omega (arith, length-append (print_request b.h) (b.body ++ b.rest), length-append b.body b.rest))
+used_within bytes Partial b = tt
+used_within bytes Hopeless b = tt

@@ -1,5 +1,5 @@
 -- Field lines that are cut short, and what closes them.
-use Rattle.std.proofs.Common.{◌≡◌, ℕ, ◌+◌, ◌<◌, ◌≤◌, ◌⊎◌, inl, inr, Bool, true, false, List, [], ◌∷◌, ◌++◌, length, length-append, map, refl, sym, ap, ◌∙◌, subst, arith, rules, append-nil, append_assoc, Some}
+use Rattle.std.proofs.Common.{◌≡◌, ℕ, ◌+◌, ◌<◌, ◌≤◌, ◌⊎◌, inl, inr, Bool, true, false, List, [], ◌∷◌, ◌++◌, length, length-append, map, refl, sym, ap, ◌∙◌, subst, arith, append-nil, append_assoc, Some}
 use Rattle.std.specs.Prelude.{All}
 use Rattle.std.specs.List.{flat_map}
 use Rattle.httparse.proofs.GrammarLemmas.{cons-append}
@@ -9,7 +9,7 @@ use Rattle.httparse.specs.Spans.{name_and_value}
 use Rattle.sp_rest.specs.Request.{length_in}
 use Rattle.sp_rest.proofs.Splits.{splits}
 use Rattle.sp_rest.proofs.Trims.{IsLength, length_front, empty_length}
-use Rattle.sp_rest.proofs.Fields.{Pair, IsGood, is_encoding, is_size, good_front, good_push, good_change, given_length, good_parts, other_name, no_encoding}
+use Rattle.sp_rest.proofs.Fields.{Pair, IsGood, is_encoding, is_size, good_front, good_push, good_change, given_length, other_name, no_encoding}
 
 -- no fields make the text and these bytes the rest of a section, within the room
 abbrev pub Refuses : List Field → List ℕ → ℕ → ℕ → List ℕ → Type 0

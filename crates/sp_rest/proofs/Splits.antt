@@ -1,5 +1,5 @@
 -- A text that is two pieces is cut in one of them.
-use Rattle.std.proofs.Common.{◌≡◌, ℕ, ◌<◌, ◌⊎◌, inl, inr, List, [], ◌∷◌, ◌++◌, length, refl, sym, ap, ◌∙◌, arith}
+use Rattle.std.proofs.Common.{◌≡◌, ℕ, ◌<◌, ◌⊎◌, inl, inr, List, [], ◌∷◌, ◌++◌, length, refl, sym, arith}
 
 -- x ends past the first piece, or within it
 pub splits : (a b x y : List ℕ) → x ++ y ≡ a ++ b

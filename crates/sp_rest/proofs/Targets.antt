@@ -1,11 +1,9 @@
 -- The first space of a request stands before its target.
-use Rattle.std.proofs.Common.{◌≡◌, ℕ, ◌<◌, ◌==◌, inl, inr, Bool, true, false, not, List, [], ◌∷◌, ◌++◌, length, refl, sym, ap, ◌∙◌, subst, arith, append-nil, append_assoc}
-use Rattle.std.specs.Prelude.{All}
+use Rattle.std.proofs.Common.{◌≡◌, ℕ, ◌==◌, inl, inr, Bool, true, false, not, List, [], ◌∷◌, ◌++◌, refl, sym, ap, ◌∙◌, subst, append_assoc}
 use Rattle.std.specs.List.{list_all}
 use Rattle.std.proofs.lemmas.Bool.{cond-true, cond-false, and_parts, and_from, eqb-true}
 use Rattle.std.proofs.lemmas.List.Elements.{All-head, All-tail, All-cons, All-nil, All-append}
-use Rattle.httparse.specs.Grammar.{LineEnd, crlf, lf, print_end, print_blank, AllPass, IsToken, is_token_byte, is_uri_byte, RequestHead, EndsInTarget, MayBecomeRequest}
-use Rattle.httparse.specs.Pieces.{Stops}
+use Rattle.httparse.specs.Grammar.{LineEnd, crlf, lf, print_end, print_blank, AllPass, is_token_byte, is_uri_byte, EndsInTarget, MayBecomeRequest}
 use Rattle.httparse.proofs.RunLemmas.{run_unique}
 use Rattle.httparse.proofs.GrammarLemmas.{print_request-append}
 use Rattle.sp_rest.specs.Targets.{is_in_target}

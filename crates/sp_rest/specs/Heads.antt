@@ -1,6 +1,6 @@
 -- What the front of some bytes is, as far as the head goes.
-use Rattle.std.specs.Prelude.{◌≡◌, ℕ, ◌≤◌, List, ◌++◌, drop}
-use Rattle.httparse.specs.Grammar.{RequestHead, HasNoRequest}
+use Rattle.std.specs.Prelude.{ℕ, List, ◌++◌, drop}
+use Rattle.httparse.specs.Grammar.{RequestHead}
 use Rattle.httparse.specs.Spans.{IsRequestAt}
 use Rattle.httparse.specs.declared.spans.HeaderSpan.{HeaderSpan}
 use Rattle.httparse.specs.declared.spans.RequestSpans.{RequestSpans}

@@ -1,7 +1,6 @@
 -- Which bytes are a request (RFC 9112), within the limits that are kept here.
 use Rattle.std.specs.Prelude.{◌≡◌, ℕ, ◌+◌, ◌≤◌, ◌&&◌, ◌⊎◌, Bool, List, [], ◌∷◌, ◌++◌, length, map, codes, if◌then◌else◌, nat_lt, nat_le, Option, Some, None}
-use Rattle.std.specs.List.{filter, list_any, list_all}
-use Rattle.std.specs.Char.{is_ascii_digit}
+use Rattle.std.specs.List.{filter, list_any}
 use Rattle.std.specs.Str.{str_eq_ignore_ascii_case, all_ascii_digits}
 use Rattle.std.specs.Str.Parse.{digits_value}
 use Rattle.httparse.specs.Grammar.{RequestHead, ReadsRequest, print_request, EndsInTarget}

@@ -1,4 +1,4 @@
-ghost use Rattle.std.specs.Prelude.{◌≡◌, ℕ, IfOk, All, length, map};
+ghost use Rattle.std.specs.Prelude.{◌≡◌, ◌<◌, ◌≤◌, ℕ, IfOk, All, length, map};
 ghost use Rattle.httparse.specs.Grammar.{RequestHead, HasNoRequest, MayBecomeRequest, EndsInTarget};
 ghost use Rattle.httparse.specs.Spans.{IsRequestAt, IsRequestWithin, IsSectionWithin, header_bytes, IsHeaderWithin};
 ghost use Rattle.sp_rest.specs.Request.{Begins, NoRequest, NeverRequest, MayBecome, shown, IsRequestOf};
@@ -22,6 +22,7 @@ use std::alloc::{AllocError, Global};
 /// decimal number, and any Transfer-Encoding make a request hopeless.
 pub fn cut(alloc: Global, bytes: &[u8]) -> Result<Cut, Memory>
     ensures whole { IfOk result (λ cut. IfWhole cut (Begins bytes.now)) }
+    ensures within { IfOk result (λ cut. IfWhole cut (λ _ used. (0 < used) × (used ≤ length bytes.now))) }
     ensures found { (request : Request) (used : ℕ) → Begins bytes.now request used → IfOk result (λ cut. cut ≡ Whole request used) }
     ensures none_yet { IfOk result (λ cut. OnPartial cut (NoRequest bytes.now)) }
     ensures partial { IfOk result (λ cut. OnPartial cut (MayBecome bytes.now)) }

@@ -8,3 +8,5 @@ mod length;
 pub mod request;
 pub mod response;
 pub mod status;
+#[cfg(test)]
+mod tests;

@@ -1,5 +1,4 @@
 use Rattle.std.proofs.Common.{rules, ◌≡◌, inr, true, false}
-use Rattle.httparse.specs.Grammar.{EndsInTarget}
 use Rattle.sp_rest.specs.Targets.{is_in_target}
 use Rattle.sp_rest.specs.Completions.{NoFieldsEnd, NoVersionEnd, NoTarget}
 use Rattle.sp_rest.proofs.Targets.{ends_in_target, tests_target}

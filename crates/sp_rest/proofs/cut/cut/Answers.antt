@@ -1,5 +1,4 @@
-use Rattle.std.proofs.Common.{◌≡◌}
-use Rattle.sp_rest.proofs.Requests.{found_is, never_is}
+use Rattle.sp_rest.proofs.Requests.{found_is, never_is, used_within}
 use Rattle.sp_rest.proofs.cut.cut.Goals as goal
 
 pub returns-in-Ok-clause-found : goal.returns-in-Ok-clause-found
@@ -7,3 +6,6 @@ returns-in-Ok-clause-found c = found_is c.args.bytes.now c.in-Ok.cut c.in-Ok.ens
 
 pub returns-in-Ok-clause-never : goal.returns-in-Ok-clause-never
 returns-in-Ok-clause-never c = never_is c.args.bytes.now c.in-Ok.cut c.in-Ok.ensures.whole c.in-Ok.ensures.partial
+
+pub returns-in-Ok-clause-within : goal.returns-in-Ok-clause-within
+returns-in-Ok-clause-within c = used_within c.args.bytes.now c.in-Ok.cut c.in-Ok.ensures.whole

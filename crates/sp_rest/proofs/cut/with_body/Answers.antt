@@ -1,4 +1,4 @@
-use Rattle.std.proofs.Common.{arith, rules, ◌≡◌, ◌<◌, ◌≤◌, List, ℕ, length, take, drop, ap, subst}
+use Rattle.std.proofs.Common.{arith, ◌<◌, ◌≤◌, List, ℕ, length, take, subst}
 use Rattle.sp_rest.specs.Request.{IsRequestOf}
 use Rattle.sp_rest.proofs.Requests.{no_request_yet, may_become, begins, rest_is}
 use Rattle.sp_rest.proofs.cut.with_body.Goals as goal

@@ -1,5 +1,4 @@
-use Rattle.std.proofs.Common.{arith, rules, ◌≡◌}
-use Rattle.httparse.specs.Outcome.{IfComplete, OnPartial}
+use Rattle.std.proofs.Common.{arith, rules}
 use Rattle.httparse.specs.Grammar.{HasNoRequest}
 use Rattle.sp_rest.proofs.Heads.{none_yet}
 use Rattle.sp_rest.proofs.head.read_head.Goals as goal

@@ -1,5 +1,4 @@
-use Rattle.std.proofs.Common.{arith, rules, ◌≡◌, ◌<◌, length, map, sym, ap, ◌∙◌, None}
-use Rattle.httparse.specs.Grammar.{print_request}
+use Rattle.std.proofs.Common.{arith, ◌≡◌, map, ap, None}
 use Rattle.httparse.specs.Spans.{name_and_value}
 use Rattle.sp_rest.specs.Request.{body_length}
 use Rattle.sp_rest.proofs.Heads.{too_long, no_length}

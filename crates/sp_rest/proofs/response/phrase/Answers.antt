@@ -1,4 +1,3 @@
-use Rattle.std.proofs.Common.{rules, ◌≡◌, ◌++◌, IfOk, List, ℕ, arith}
 use Rattle.sp_rest.proofs.Codes.{three_digits}
 use Rattle.sp_rest.proofs.response.phrase.Goals as goal
 
