@@ -21,9 +21,3 @@ abbrev pub OnHopeless : Cut → Type 0 → Type 0
 OnHopeless (Whole request used) P = ⊤
 OnHopeless Partial P = ⊤
 OnHopeless Hopeless P = P
-
--- by cases on all three
-abbrev pub IsCutAs : Cut → (Request → ℕ → Type 0) → Type 0 → Type 0 → Type 0
-IsCutAs (Whole request used) W P H = W request used
-IsCutAs Partial W P H = P
-IsCutAs Hopeless W P H = H

@@ -1,6 +1,6 @@
 ghost use Rattle.std.specs.Prelude.{◌≡◌, ◌<◌, ◌≤◌, ℕ, IfOk, All, length, map};
 ghost use Rattle.httparse.specs.Grammar.{RequestHead, HasNoRequest, MayBecomeRequest, EndsInTarget};
-ghost use Rattle.httparse.specs.Spans.{IsRequestAt, IsRequestWithin, IsSectionWithin, header_bytes, IsHeaderWithin};
+ghost use Rattle.httparse.specs.Spans.{IsRequestAt, IsRequestWithin, header_bytes, IsHeaderWithin};
 ghost use Rattle.sp_rest.specs.Request.{Begins, NoRequest, NeverRequest, MayBecome, shown, IsRequestOf};
 ghost use Rattle.sp_rest.specs.Cutting.{IfWhole, OnPartial, OnHopeless};
 ghost use Rattle.sp_rest.specs.Heads.{IsHeadAt};

@@ -27,7 +27,8 @@ pub struct Request {
 pub enum Cut {
     /// A whole request; `used` is its length in bytes, with its body.
     Whole { request: Request, used: usize },
-    /// No request yet, but more bytes can make it one.
+    /// No request yet, but more bytes can make it one, or they end within the target, which is
+    /// tested for UTF-8 once it has ended.
     Partial,
     /// No request, whatever bytes follow.
     Hopeless,
