@@ -1,6 +1,7 @@
 pub mod ActsLemmas
 pub mod Cuts
 pub mod Entries
+pub mod Fronts
 pub mod GivesLemmas
 pub mod Heads
 pub mod Holds

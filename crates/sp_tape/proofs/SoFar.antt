@@ -13,10 +13,11 @@ use Rattle.sp_tape.specs.declared.reader.Next.TheVariants as next
 use Rattle.sp_tape.specs.declared.turn.Served.TheVariants as served
 use Rattle.sp_tape.specs.declared.status.Status.TheVariants.{Done, Usage, BadTape, ReadFault, WriteFault, Memory}
 use Rattle.sp_tape.specs.Acts.{Acts}
-use Rattle.sp_tape.specs.Entry.{entry_text, IsEntry, HasNoEntry}
-use Rattle.sp_tape.specs.Reading.{Reads, Left, Comes}
+use Rattle.sp_tape.specs.Entry.{entry_text, IsEntry}
+use Rattle.sp_tape.specs.Reading.{Reads, Left, Comes, longest_read}
 use Rattle.sp_tape.specs.Run.{Turn, start, IsRun, ledger_after, tape_of, line_at, output_of}
-use Rattle.sp_tape.specs.Runs.{Serves, Runs, longest_tape}
+use Rattle.sp_tape.specs.Runs.{Serves, Runs, IsBad, longest_tape}
+use Rattle.sp_tape.proofs.Fronts.{refused_is_none}
 use Rattle.sp_tape.proofs.Holds.{run_holds}
 use Rattle.sp_tape.proofs.Known.{reads_nothing, reads_both}
 use Rattle.sp_tape.proofs.Pieces.{writes_nothing, writes_both}
@@ -31,6 +32,7 @@ pub record SoFar (left_old left_new written_old written_new : Option (List ℕ))
   pub counted : length turns ≡ count
   pub placed : length (tape_of turns) ≡ offset
   pub fits : offset ≤ longest_tape
+  pub waits : length waiting ≤ longest_read
 
 -- nothing was answered yet
 pub begins : (left written : Option (List ℕ)) (core : CoreState) → Stands core start → SoFar left left written written [] core 0 0
@@ -44,6 +46,7 @@ begins left written core s = record {
   counted = refl;
   placed = refl;
   fits = omega arith;
+  waits = omega arith;
 }
 
 -- a run goes on by one entry
@@ -87,7 +90,7 @@ module _ (lo ll ln wo wl wn : Option (List ℕ)) (waiting left : List ℕ) (core
   fits_whole : length (tape_of s.turns) ≤ longest_tape
   fits_whole = subst (λ k. k ≤ longest_tape) (sym s.placed) s.fits
 
-  pub ends_done : (room : ℕ) → Comes room ll ln waiting left next.End → Runs lo wo wl Done
+  pub ends_done : (room : ℕ) → Comes room ll ln waiting left next.End → Runs lo ln wo wl Done
   ends_done room (reads, end) = record {
     turns = s.turns;
     run = s.run;
@@ -99,25 +102,36 @@ module _ (lo ll ln wo wl wn : Option (List ℕ)) (waiting left : List ℕ) (core
     wrote = s.wrote;
   }
 
-  pub ends_bad : Comes (longest_tape - at) ll ln waiting left next.Bad → Runs lo wo wl (BadTape (n + 1) at)
-  ends_bad (all, reads, some, none) = record {
+  pub ends_bad : Comes (longest_tape - at) ll ln waiting left next.Bad → Runs lo ln wo wl (BadTape (n + 1) at)
+  ends_bad (all, reads, refused, no_further) = record {
     turns = s.turns;
     run = s.run;
     holds = run_holds start s.begun s.turns s.run;
     rest = all ++ unwrap_or ln [];
     read = subst (λ zs. Left lo zs) (append_assoc (tape_of s.turns) all (unwrap_or ln [])) (tape_left lo ln (tape_of s.turns ++ all) (reads_more lo ll ln (tape_of s.turns) waiting all s.read reads));
     fits = fits_whole;
-    ends = (not_empty all (unwrap_or ln []) some, subst (λ k. HasNoEntry (longest_tape - k) (all ++ unwrap_or ln [])) (sym s.placed) none, ap (λ m. m + 1) (sym s.counted), sym s.placed);
+    ends = (
+      subst (λ k. IsBad (longest_tape - k) ln (all ++ unwrap_or ln [])) (sym s.placed) (record {
+        some = not_empty all (unwrap_or ln []) refused.0;
+        none = refused_is_none (longest_tape - at) ln all refused;
+        read = all;
+        split = refl;
+        refused = refused;
+        no_further = no_further s.waits;
+      }),
+      ap (λ m. m + 1) (sym s.counted),
+      sym s.placed,
+    );
     wrote = s.wrote;
   }
 
   read_so_far : Left lo (tape_of s.turns ++ (waiting ++ unwrap_or ll []))
   read_so_far = subst (λ zs. Left lo zs) (append_assoc (tape_of s.turns) waiting (unwrap_or ll [])) (tape_left lo ll (tape_of s.turns ++ waiting) s.read)
 
-  pub ends_read_fault : Runs lo wo wl ReadFault
+  pub ends_read_fault : Runs lo ln wo wl ReadFault
   ends_read_fault = record { turns = s.turns; run = s.run; holds = run_holds start s.begun s.turns s.run; rest = waiting ++ unwrap_or ll []; read = read_so_far; fits = fits_whole; ends = tt; wrote = s.wrote }
 
-  pub ends_memory : Runs lo wo wl Memory
+  pub ends_memory : Runs lo ln wo wl Memory
   ends_memory = record { turns = s.turns; run = s.run; holds = run_holds start s.begun s.turns s.run; rest = waiting ++ unwrap_or ll []; read = read_so_far; fits = fits_whole; ends = tt; wrote = s.wrote }
 
   -- the tape up to the end of the entry that came
@@ -145,9 +159,10 @@ module _ (lo ll ln wo wl wn : Option (List ℕ)) (waiting left : List ℕ) (core
         counted = length-append s.turns (t ∷ []) ∙ ap (λ m. m + 1) s.counted;
         placed = placed_after (longest_tape - at) found answered M came;
         fits = let within = came.2 in let f = s.fits in omega arith;
+        waits = came.4 s.waits;
       }
 
-  pub ends_write_fault : (found : Found) (after : CoreState) → Comes (longest_tape - at) ll ln waiting left (next.Found found) → Serves found.entry (ledger_after start s.turns) after wl wn served.Fault → Runs lo wo wn WriteFault
+  pub ends_write_fault : (found : Found) (after : CoreState) → Comes (longest_tape - at) ll ln waiting left (next.Found found) → Serves found.entry (ledger_after start s.turns) after wl wn served.Fault → Runs lo ln wo wn WriteFault
   ends_write_fault found after came (answered, M, acts, stands, (front, back, text, wrote)) =
       let t = turn_of found.entry answered M in
       let run = IsRun-push start s.turns t s.run came.0 acts in
@@ -167,18 +182,18 @@ module _ (lo ll ln wo wl wn : Option (List ℕ)) (waiting left : List ℕ) (core
         );
       }
 
-  pub ends_unserved : wn ≡ wl → Runs lo wo wn Memory
-  ends_unserved same = subst (λ (w : Option (List ℕ)). Runs lo wo w Memory) (sym same) ends_memory
+  pub ends_unserved : wn ≡ wl → Runs lo ln wo wn Memory
+  ends_unserved same = subst (λ (w : Option (List ℕ)). Runs lo ln wo w Memory) (sym same) ends_memory
 
 -- a run that didn't begin
-pub ends_usage : (left written : Option (List ℕ)) → Runs left written written Usage
+pub ends_usage : (left written : Option (List ℕ)) → Runs left left written written Usage
 ends_usage left written = record { turns = []; run = tt; holds = λ k d h. absurd (omega arith); rest = unwrap_or left []; read = kept left; fits = omega arith; ends = refl; wrote = writes_nothing written }
   where
     kept : (l : Option (List ℕ)) → Left l ([] ++ unwrap_or l [])
     kept None = tt
     kept (Some bytes) = refl
 
-pub ends_at_once : (left written : Option (List ℕ)) → Runs left written written Memory
+pub ends_at_once : (left written : Option (List ℕ)) → Runs left left written written Memory
 ends_at_once left written = record { turns = []; run = tt; holds = λ k d h. absurd (omega arith); rest = unwrap_or left []; read = kept left; fits = omega arith; ends = tt; wrote = writes_nothing written }
   where
     kept : (l : Option (List ℕ)) → Left l ([] ++ unwrap_or l [])

@@ -45,14 +45,14 @@ none_left : (more : List Entry) → text_of more ≡ [] → more ≡ []
 none_left [] h = refl
 none_left (e ∷ es) h = absurd (entry_some e (text_of es) h)
 
-module _ (tape wo wn : Option (List ℕ)) (entries : List Entry) (whole : IsTapeOf tape entries) where
+module _ (tape left wo wn : Option (List ℕ)) (entries : List Entry) (whole : IsTapeOf tape entries) where
   told : (bytes : List ℕ) → Left tape bytes → text_of entries ≡ bytes
-  told bytes left = subst (λ (t : Option (List ℕ)). Left t bytes) whole.text left
+  told bytes is = subst (λ (t : Option (List ℕ)). Left t bytes) whole.text is
 
-  split : (status : Status) (r : Runs tape wo wn status) → Behind entries r.turns r.rest
+  split : (status : Status) (r : Runs tape left wo wn status) → Behind entries r.turns r.rest
   split status r = behind start r.turns r.run entries r.rest whole.valid (told (tape_of r.turns ++ r.rest) r.read)
 
-  pub completes : (words : List (String Global)) (status : Status) → Runs tape wo wn status → is_run words ≡ true → (status ≡ Usage → is_run words ≡ false) → (status ≡ ReadFault → ⊥) → (status ≡ WriteFault → ⊥) → Completes entries wo wn status
+  pub completes : (words : List (String Global)) (status : Status) → Runs tape left wo wn status → is_run words ≡ true → (status ≡ Usage → is_run words ≡ false) → (status ≡ ReadFault → ⊥) → (status ≡ WriteFault → ⊥) → Completes entries wo wn status
   completes words Done r run usage read write =
       let b = split Done r in
       let none = none_left b.more (sym b.text ∙ r.ends) in
@@ -65,8 +65,8 @@ module _ (tape wo wn : Option (List ℕ)) (entries : List Entry) (whole : IsTape
       let room : length (text_of b.more) ≤ longest_tape - length (tape_of r.turns) =
       subst (λ (zs : List ℕ). length zs ≤ longest_tape - length (tape_of r.turns)) b.text
       (let all : length (text_of entries) ≡ length (tape_of r.turns) + length r.rest = ap (λ (zs : List ℕ). length zs) total ∙ size in let f = whole.fits in omega arith) in
-      let none = left_begins b.more b.valid (longest_tape - length (tape_of r.turns)) room (subst (HasNoEntry (longest_tape - length (tape_of r.turns))) b.text r.ends.1) in
-      absurd (r.ends.0 (b.text ∙ ap text_of none))
+      let none = left_begins b.more b.valid (longest_tape - length (tape_of r.turns)) room (subst (HasNoEntry (longest_tape - length (tape_of r.turns))) b.text r.ends.0.none) in
+      absurd (r.ends.0.some (b.text ∙ ap text_of none))
   completes words ReadFault r run usage read write = absurd (read refl)
   completes words WriteFault r run usage read write = absurd (write refl)
   completes words Memory r run usage read write = tt

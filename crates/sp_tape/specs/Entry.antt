@@ -34,3 +34,7 @@ BeginsWith bytes e = (rest : List ℕ) × (bytes ≡ entry_text e ++ rest)
 -- no prefix of the bytes is an entry that ends within so many bytes
 abbrev pub HasNoEntry : ℕ → List ℕ → Type 0
 HasNoEntry room bytes = (e : Entry) → IsEntry e → length (entry_text e) ≤ room → BeginsWith bytes e → ⊥
+
+-- whatever follows the bytes, they begin with no such entry
+abbrev pub IsHopeless : ℕ → List ℕ → Type 0
+IsHopeless room bytes = (more : List ℕ) → HasNoEntry room (bytes ++ more)

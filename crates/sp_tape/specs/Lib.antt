@@ -10,3 +10,4 @@ pub mod Reading
 pub mod Run
 pub mod Runs
 pub mod Status
+pub mod Unfinished

@@ -24,7 +24,8 @@ pub struct Found {
 pub enum Parsed {
     /// It is an entry.
     Found(Found),
-    /// It is none yet.
+    /// It is none yet: it holds no line feed and no more bytes than a first line may have, or
+    /// less than its first line announces.
     Short,
     /// It is none, whatever follows.
     Bad,

@@ -13,7 +13,8 @@ pub enum Next {
     Found(Found),
     /// The tape was read to its end, and nothing is left.
     End,
-    /// The bytes that are left don't begin with an entry.
+    /// The bytes that wait don't begin with an entry: the tape was read to its end, or nothing
+    /// that follows can make one.
     Bad,
     Fault,
     Memory,
@@ -29,7 +30,8 @@ pub enum Fill {
 }
 
 /// The next entry of a tape, off the bytes that wait and those that the source gives. It reads on
-/// only while the bytes that wait may become an entry of at most `room` bytes.
+/// only while the bytes that wait are unfinished: at most 98 without a line feed, or less than their
+/// first line announces, where that takes at most `room` bytes.
 pub fn next_entry<S: Source>(
     alloc: Global,
     source: &mut S,

@@ -26,7 +26,8 @@ pub fn run<S: Source, K: Sink>(
     alloc: Global,
 ) -> Status
     ensures usage { (result ≡ Status.Usage) ↔ (is_run words.now ≡ false) }
-    ensures tape { Runs (S.left source.old) (K.written sink.old) (K.written sink.new) result }
+    ensures tape { Runs (S.left source.old) (S.left source.new)
+        (K.written sink.old) (K.written sink.new) result }
     ensures read_fault { result ≡ Status.ReadFault → Rose (S.faults source.old) (S.faults source.new) }
     ensures write_fault { result ≡ Status.WriteFault → Rose (K.faults sink.old) (K.faults sink.new) }
 
@@ -45,7 +46,8 @@ fn run_words<S: Source, K: Sink>(
     alloc: Global,
 ) -> Status
     ensures usage { (result ≡ Status.Usage) ↔ (is_run words.now ≡ false) }
-    ensures tape { Runs (S.left source.old) (K.written sink.old) (K.written sink.new) result }
+    ensures tape { Runs (S.left source.old) (S.left source.new)
+        (K.written sink.old) (K.written sink.new) result }
     ensures read_fault { result ≡ Status.ReadFault → Rose (S.faults source.old) (S.faults source.new) }
     ensures write_fault { result ≡ Status.WriteFault → Rose (K.faults sink.old) (K.faults sink.new) }
 {
@@ -74,7 +76,8 @@ fn run_tape<S: Source, K: Sink>(
     sink: &mut K,
 ) -> Status
     requires { Stands core.old start }
-    ensures tape { Runs (S.left source.old) (K.written sink.old) (K.written sink.new) result }
+    ensures tape { Runs (S.left source.old) (S.left source.new)
+        (K.written sink.old) (K.written sink.new) result }
     ensures no_usage { result ≡ Status.Usage → ⊥ }
     ensures read_fault { result ≡ Status.ReadFault → Rose (S.faults source.old) (S.faults source.new) }
     ensures write_fault { result ≡ Status.WriteFault → Rose (K.faults sink.old) (K.faults sink.new) }

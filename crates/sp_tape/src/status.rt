@@ -10,7 +10,8 @@ pub enum Status {
     /// The words aren't a form of the program.
     Usage,
     /// The bytes at this offset of the tape, counted from 0, don't begin with an entry, which
-    /// would be the one of this number, counted from 1. All entries before were answered.
+    /// would be the one of this number, counted from 1: the tape ended, or nothing that follows
+    /// can make one. All entries before were answered.
     BadTape { entry: u64, offset: u64 },
     /// The source failed.
     ReadFault,

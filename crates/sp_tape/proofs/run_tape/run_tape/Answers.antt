@@ -13,8 +13,7 @@ returns-in-Fault-serve-clause-tape g c =
 pub returns-in-Memory-serve-clause-tape : goal.returns-in-Memory-serve-clause-tape
 returns-in-Memory-serve-clause-tape g c =
     let s = c.loop-number.invariant.so_far in
-    let left = g.S.Source.left c.loop-number.source in
-    ends_unserved _ left left _ _ _ _ [] _ _ _ s (c.in-Memory-serve.ensures.serves _ s.stands)
+    ends_unserved _ _ _ _ _ _ _ [] _ _ _ s (c.in-Memory-serve.ensures.serves _ s.stands)
 
 pub returns-in-End-clause-tape : goal.returns-in-End-clause-tape
 returns-in-End-clause-tape g c =
@@ -26,13 +25,11 @@ returns-in-Bad-clause-tape g c =
 
 pub returns-in-Fault-clause-tape : goal.returns-in-Fault-clause-tape
 returns-in-Fault-clause-tape g c =
-    let left = g.S.Source.left c.loop-number.source in
-    ends_read_fault _ left left _ (g.K.Sink.written c.loop-number.sink) (g.K.Sink.written c.loop-number.sink) _ [] _ _ _ c.loop-number.invariant.so_far
+    ends_read_fault _ _ _ _ (g.K.Sink.written c.loop-number.sink) (g.K.Sink.written c.loop-number.sink) _ [] _ _ _ c.loop-number.invariant.so_far
 
 pub returns-in-Memory-clause-tape : goal.returns-in-Memory-clause-tape
 returns-in-Memory-clause-tape g c =
-    let left = g.S.Source.left c.loop-number.source in
-    ends_memory _ left left _ (g.K.Sink.written c.loop-number.sink) (g.K.Sink.written c.loop-number.sink) _ [] _ _ _ c.loop-number.invariant.so_far
+    ends_memory _ _ _ _ (g.K.Sink.written c.loop-number.sink) (g.K.Sink.written c.loop-number.sink) _ [] _ _ _ c.loop-number.invariant.so_far
 
 pub loop-number-preserved : goal.loop-number-preserved
 loop-number-preserved g c =
