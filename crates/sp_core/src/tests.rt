@@ -9,6 +9,7 @@ use sp_event::answer::Reply;
 use sp_event::request::{Event, Query};
 use sp_message::message::{Dest, Message};
 use sp_message::payload::Payload;
+use sp_message::property::Properties;
 use std::alloc::Global;
 use std::slice;
 use std::test::Fail;
@@ -27,6 +28,7 @@ fn publish(alloc: Global) -> Result<Event, Fail> {
             payload,
             ttl: 0,
             eligible: false,
+            properties: Properties::none(alloc),
         },
     })
 }

@@ -1,5 +1,5 @@
 -- Which requests the bytes of a line are, and what is wrong with those that are none.
-use Rattle.std.specs.Prelude.{◌≡◌, ◌==◌, ◌⊎◌, ℕ, List, not, false, Option, Some, None, if◌then◌else◌, codes, IsUtf8}
+use Rattle.std.specs.Prelude.{◌≡◌, ◌==◌, ◌⊎◌, ℕ, List, [], not, false, Option, Some, None, if◌then◌else◌, codes, IsUtf8}
 use Rattle.std.specs.List.{list_any}
 use Rattle.serde_json.specs.Data.{Data}
 use Rattle.serde_json.specs.Read.{read}
@@ -48,9 +48,9 @@ provision_in d =
     else (if another_field ops.Provision d then foreign
     else made_of (name_at (codes "endpoint") d) (λ name. request (Do (events.Provision name))))
 
--- a message of this payload for a queue, without a time to live, that isn't eligible for a dead-message queue
+-- a message of this payload for a queue, without a time to live, that isn't eligible for a dead-message queue and has no properties
 abbrev pub message_to : List ℕ → List ℕ → Message
-message_to queue payload = record { dest = Queue queue; payload = payload; ttl = 0; eligible = false }
+message_to queue payload = record { dest = Queue queue; payload = payload; ttl = 0; eligible = false; properties = [] }
 
 abbrev pub publish_in : Data → Reading
 publish_in d =

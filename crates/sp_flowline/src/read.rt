@@ -10,6 +10,7 @@ use serde_json::Value;
 use sp_base::refusal::Refusal;
 use sp_event::request::{Ask, Event, Query};
 use sp_message::message::{Dest, Message};
+use sp_message::property::Properties;
 use std::alloc::{AllocError, Global};
 use thiserror::Error;
 
@@ -117,6 +118,7 @@ fn read_publish(alloc: Global, value: &Value) -> Result<Ask, ReadError>
         payload,
         ttl: 0,
         eligible: false,
+        properties: Properties::none(alloc),
     };
     Ok(Ask::Do(Event::Publish { message }))
 }

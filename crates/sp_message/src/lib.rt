@@ -1,7 +1,9 @@
-//! Messages, and what a copy of one counts against a quota.
+//! Messages with their properties, and what a copy of one counts against a quota.
 #![tactic(auto)]
 
 pub mod message;
 pub mod payload;
+pub mod property;
 #[cfg(test)]
 mod tests;
+pub mod value;

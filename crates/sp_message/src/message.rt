@@ -2,6 +2,7 @@ ghost use Rattle.std.specs.Prelude.{◌≡◌, ◌≤◌, length, IfOk};
 ghost use Rattle.sp_message.specs.Size.{size_of, dest_bytes};
 
 use crate::payload::Payload;
+use crate::property::Properties;
 use sp_base::name::Name;
 use std::alloc::{AllocError, Global};
 
@@ -42,15 +43,19 @@ pub struct Message {
     pub ttl: u64,
     /// Whether a dead copy may be moved to a dead-message queue.
     pub eligible: bool,
+    pub properties: Properties,
 }
 
 impl Message {
-    /// The bytes that a copy counts against a quota: 64, the destination's and the payload's.
+    /// The bytes that a copy counts against a quota: 64, the destination's, the payload's, and for
+    /// each property 16, its name's and its text value's.
     pub fn size(&self) -> u64
         ensures size { result ≡ size_of self.now }
-        ensures bound { result ≤ 8388872 }
+        ensures bound { result ≤ 8918280 }
     {
-        64 + self.dest.as_bytes().len() as u64 + self.payload.as_slice().len() as u64
+        64 + self.dest.as_bytes().len() as u64
+            + self.payload.as_slice().len() as u64
+            + self.properties.size()
     }
 
     /// A second message that equals this one.
@@ -62,6 +67,7 @@ impl Message {
             payload: self.payload.copy(alloc)?,
             ttl: self.ttl,
             eligible: self.eligible,
+            properties: self.properties.copy(alloc)?,
         })
     }
 }

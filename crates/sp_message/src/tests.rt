@@ -1,5 +1,6 @@
 use crate::message::{Dest, Message};
 use crate::payload::Payload;
+use crate::property::Properties;
 use sp_base::bytes::Bytes;
 use sp_base::name::Name;
 use std::test::Fail;
@@ -14,6 +15,7 @@ fn hello_to_q1_has_71_bytes(rt: HostRuntime) -> Result<(), Fail> {
         payload: Payload::from_bytes(bytes),
         ttl: 0,
         eligible: false,
+        properties: Properties::none(alloc),
     };
     assert_eq!(rt; message.size(), 71);
     assert_eq!(rt; message.copy(alloc)?.size(), 71);
