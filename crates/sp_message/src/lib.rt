@@ -1,6 +1,7 @@
 //! Messages with their properties, and what a copy of one counts against a quota.
 #![tactic(auto)]
 
+pub mod decimal;
 pub mod message;
 pub mod payload;
 pub mod property;

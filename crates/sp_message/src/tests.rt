@@ -1,23 +1,126 @@
 use crate::message::{Dest, Message};
 use crate::payload::Payload;
-use crate::property::Properties;
+use crate::property::{Properties, Property};
+use crate::value::{Fixed, Value};
 use sp_base::bytes::Bytes;
 use sp_base::name::Name;
+use sp_base::text::Str;
+use std::alloc::Global;
 use std::test::Fail;
 
-#[test]
-fn hello_to_q1_has_71_bytes(rt: HostRuntime) -> Result<(), Fail> {
-    let alloc = rt.alloc();
+fn hello(alloc: Global, properties: Properties) -> Result<Message, Fail> {
     let bytes = Bytes::copy_of(alloc, b"hello")?;
-    assert!(rt; bytes.len() < 9);
-    let message = Message {
+    if bytes.len() > 9 {
+        return Err(Fail::from("too long"));
+    }
+    Ok(Message {
         dest: Dest::Queue(Name::read(alloc, b"q1")?),
         payload: Payload::from_bytes(bytes),
         ttl: 0,
         eligible: false,
-        properties: Properties::none(alloc),
-    };
+        properties,
+    })
+}
+
+fn property(alloc: Global, name: &str, value: Value) -> Result<Property, Fail> {
+    Ok(Property {
+        name: Str::copy_of(alloc, name)?,
+        value,
+    })
+}
+
+fn fixed(text: &[u8]) -> Result<Fixed, Fail> {
+    Ok(Fixed::read(text).ok_or("no fixed number")?)
+}
+
+#[test]
+fn hello_to_q1_has_71_bytes(rt: HostRuntime) -> Result<(), Fail> {
+    let alloc = rt.alloc();
+    let message = hello(alloc, Properties::none(alloc))?;
     assert_eq!(rt; message.size(), 71);
     assert_eq!(rt; message.copy(alloc)?.size(), 71);
     Ok(())
+}
+
+// 71, 16 and 4 for "high", 16, 4 and 2 for "name", 16 and 5 for "price", 16 and 3 for "qty".
+#[test]
+fn each_property_counts_16_its_name_and_its_text(rt: HostRuntime) -> Result<(), Fail> {
+    let alloc = rt.alloc();
+    let mut rows = Vec::new(alloc);
+    rows.push(property(alloc, "high", Value::Bool(true))?)?;
+    rows.push(property(alloc, "name", Value::Text(Str::copy_of(alloc, "eu")?))?)?;
+    rows.push(property(alloc, "price", Value::Fixed(fixed(b"10.5")?))?)?;
+    rows.push(property(alloc, "qty", Value::Whole(3))?)?;
+    let properties = Properties::from_vec(rows).ok_or("no properties")?;
+    let message = hello(alloc, properties)?.copy(alloc)?;
+    assert_eq!(rt; message.size(), 153);
+    assert!(rt; matches!(message.properties.find(b"qty"), Some(Value::Whole(3))));
+    assert!(rt; message.properties.find(b"qt").is_none());
+    Ok(())
+}
+
+#[test]
+fn names_rise_and_values_keep_their_bounds(rt: HostRuntime) -> Result<(), Fail> {
+    let alloc = rt.alloc();
+    let rows = [
+        ("a", "a", 1),
+        ("b", "a", 1),
+        ("a", "b", i64::MIN),
+        ("a", "b c", 1),
+        ("", "a", 1),
+    ];
+    for (first, second, number) in rows {
+        let mut pair = Vec::new(alloc);
+        pair.push(property(alloc, first, Value::Whole(number))?)?;
+        pair.push(property(alloc, second, Value::Bool(false))?)?;
+        assert!(rt;
+            Properties::from_vec(pair).is_none(),
+            "{first} {second} {number}"
+        );
+    }
+    Ok(())
+}
+
+#[test]
+fn a_fixed_number_is_printed_in_one_way(rt: HostRuntime) -> Result<(), Fail> {
+    let alloc = rt.alloc();
+    let rows = [
+        ("10.50", "10.5"),
+        ("-0.0", "0.0"),
+        ("00.000001", "0.000001"),
+        ("-12.000000", "-12.0"),
+        ("-0.250", "-0.25"),
+        ("000000000000000000000000000007.0", "7.0"),
+        ("9223372036854775807.0", "9223372036854775807.0"),
+        ("-9223372036854775807.0", "-9223372036854775807.0"),
+    ];
+    for (text, canonical) in rows {
+        let printed = fixed(text.as_bytes())?.text(alloc)?;
+        assert_eq!(rt; printed.as_str(), canonical);
+    }
+    Ok(())
+}
+
+#[test]
+fn no_fixed_numbers(rt: HostRuntime) {
+    let rows = [
+        "",
+        "-",
+        ".",
+        "1",
+        "1.",
+        ".5",
+        "1.1234567",
+        "--1.0",
+        "+1.0",
+        "1.0 ",
+        "1.0e1",
+        "1..0",
+        "a.0",
+        "9223372036854775807.000001",
+        "9223372036854775808.0",
+    ];
+    for text in rows {
+        assert!(rt; Fixed::read(text.as_bytes()).is_none(), "{text}");
+    }
 }

@@ -1,8 +1,12 @@
-ghost use Rattle.std.specs.Prelude.{◌≡◌, ◌≤◌, unsigned_abs, IfOk, SomeIff};
+ghost use Rattle.std.specs.Prelude.{◌≡◌, ◌≤◌, ◌/◌, ◌%◌, ◌++◌, ◌∷◌, ◌<◌, neg_ℤ, unsigned_abs, string_bytes, IfOk, OnOk, SomeIff};
+ghost use Rattle.std.specs.Fmt.{decimal};
+ghost use Rattle.sp_message.specs.Decimal.{fixed_of, fixed_text, bounded, has_minus, places_of, unsigned_fixed_of};
 ghost use Rattle.sp_message.specs.Value.{is_in_range, text_len};
 
+use crate::decimal::{decimal_part, millionths, push_places, whole, whole_part};
 use sp_base::text::Str;
 use std::alloc::{AllocError, Global};
+use std::fmt::Write;
 use std::marker::Model;
 
 /// The greatest magnitude of a fixed number, in millionths: (2^63 - 1) million.
@@ -40,6 +44,41 @@ impl Fixed {
         } else {
             None
         }
+    }
+
+    /// The number that a text is: an optional `-`, digits, a point, one to six digits. None exactly
+    /// for another text, or above the greatest magnitude. It takes no memory.
+    pub fn read(text: &[u8]) -> Option<Fixed>
+        ensures { result ≡ fixed_of text.now }
+    {
+        if !has_minus(text) {
+            return unsigned(text);
+        }
+        match unsigned(&text[1..]) {
+            Some(fixed) => Some(fixed.negated()),
+            None => None,
+        }
+    }
+
+    fn negated(self) -> Fixed
+        ensures { result ≡ neg_ℤ self }
+    {
+        Fixed {
+            millionths: -self.millionths,
+        }
+    }
+
+    /// The canonical text: no zeros at the front but one digit before the point, none at the end but
+    /// one digit after it, and zero without a sign.
+    pub fn text(self, alloc: Global) -> Result<String, AllocError>
+        ensures { IfOk result (λ text. string_bytes text ≡ fixed_text self) }
+    {
+        let mut text = String::new(alloc);
+        if self.millionths < 0 {
+            text.push('-')?;
+        }
+        push_magnitude(&mut text, self.millionths.unsigned_abs())?;
+        Ok(text)
     }
 
     /// How many millionths it is.
@@ -95,4 +134,50 @@ impl Value {
             Value::Bool(b) => Ok(Value::Bool(*b)),
         }
     }
+}
+
+/// The number of millionths that a text without a sign stands for: digits, a point and one to six
+/// digits. None exactly for another text, or above the greatest magnitude.
+fn unsigned(text: &[u8]) -> Option<Fixed>
+    ensures value { result ≡ unsigned_fixed_of text.now }
+{
+    let Some(whole) = whole(whole_part(text)) else {
+        return None;
+    };
+    let Some(millionths) = millionths(decimal_part(text)) else {
+        return None;
+    };
+    bounded(whole, millionths)
+}
+
+fn bounded(whole: u64, millionths: u64) -> Option<Fixed>
+    requires { millionths < 1000000 }
+    ensures value { result ≡ bounded whole millionths }
+{
+    let magnitude = u128::from(whole) * 1_000_000 + u128::from(millionths);
+    if magnitude > GREATEST_FIXED {
+        return None;
+    }
+    Some(Fixed {
+        millionths: magnitude as i128,
+    })
+}
+
+fn has_minus(text: &[u8]) -> bool
+    ensures { result ≡ has_minus text.now }
+{
+    match text.first() {
+        Some(b) => *b == b'-',
+        None => false,
+    }
+}
+
+/// Appends the digits of a number of millionths, with its point.
+fn push_magnitude(text: &mut String, millionths: u128) -> Result<(), AllocError>
+    requires { millionths ≤ GREATEST_FIXED }
+    ensures { OnOk result (string_bytes text.new ≡ string_bytes text.old ++ (decimal (millionths / 1000000) ++ 46 ∷ places_of 6 (millionths % 1000000))) }
+{
+    let whole = (millionths / 1_000_000) as u64;
+    write!(text, "{whole}.")?;
+    push_places(text, 6, (millionths % 1_000_000) as u32)
 }
