@@ -1,3 +1,11 @@
-pub mod MadeSound
+pub mod ClosedSound
+pub mod Counting
+pub mod Examples
+pub mod HeldSound
 pub mod KeptLemmas
+pub mod MadeSound
+pub mod Marks
+pub mod Places
+pub mod ReturnedSound
+pub mod Room
 pub mod Totals

@@ -1,14 +1,17 @@
 -- A new copy keeps the history sound.
-use Rattle.std.proofs.Common.{◌≡◌, ◌≤◌, ◌<◌, ◌==◌, ℕ, ◌+◌, ◌^◌, Bool, true, false, ◌&&◌, ◌||◌, cond, List, [], ◌∷◌, ◌++◌, refl, subst, arith, filter, sum_by, IsTrue}
+use Rattle.std.proofs.Common.{◌≡◌, ◌≤◌, ◌<◌, ◌==◌, ℕ, ◌+◌, ◌^◌, Bool, true, false, not, ◌&&◌, ◌||◌, cond, List, [], ◌∷◌, ◌++◌, refl, ap, sym, ◌∙◌, subst, arith, filter, sum_by, IsTrue}
+use Rattle.std.proofs.lemmas.List.{map-append}
 use Rattle.std.proofs.lemmas.List.Elements.{All-push, All-weaker, filter-append}
 use Rattle.std.proofs.lemmas.List.Sums.{sum_by-append}
 use Rattle.std.proofs.lemmas.List.Quantifiers.{all_pairs_push}
 use Rattle.std.proofs.lemmas.List.Folds.{list_any-append}
-use Rattle.std.proofs.lemmas.Bool.{eqb-true}
+use Rattle.std.proofs.lemmas.Bool.{eqb-true, and_parts, and_from}
 use Rattle.sp_copies.specs.declared.made.NewCopy.{NewCopy}
 use Rattle.sp_copies.specs.declared.made.MadeCopy.{MadeCopy}
+use Rattle.sp_copies.specs.declared.held.HeldCopy.{HeldCopy}
+use Rattle.sp_copies.specs.declared.held.CopyAttempts.{CopyAttempts}
 use Rattle.sp_copies.specs.declared.closed.ClosedCopy.{ClosedCopy}
-use Rattle.sp_copies.specs.History.{History, is_made, is_open_in, used_bytes, numbered, with_made}
+use Rattle.sp_copies.specs.History.{History, is_made, is_closed, is_spooled, is_open_in, used_bytes, numbered, with_made}
 use Rattle.sp_copies.specs.Sound.{IsSoundHistory}
 
 -- one more copy in an endpoint's used bytes
@@ -45,6 +48,10 @@ made_sound H c s fits =
       below = All-push (λ (c : MadeCopy). c.number < H.next + 1) H.made new (All-weaker (λ (c : MadeCopy). c.number < H.next) (λ (c : MadeCopy). c.number < H.next + 1) (λ c lt. omega arith) H.made s.below) (omega arith);
       closed_made = All-weaker (λ (x : ClosedCopy). IsTrue (is_made H.made x.copy)) (λ (x : ClosedCopy). IsTrue (is_made (H.made ++ new ∷ []) x.copy)) (λ x t. still x.copy H.made new t) H.closed s.closed_made;
       closed_once = s.closed_once;
+      held_spooled = All-weaker (λ (h : HeldCopy). IsTrue (is_spooled H h.copy)) (λ (h : HeldCopy). IsTrue (is_made (H.made ++ new ∷ []) h.copy && not (is_closed H.closed h.copy)))
+          (λ h t. let p = and_parts (is_made H.made h.copy) (not (is_closed H.closed h.copy)) t in and_from _ _ (still h.copy H.made new p.0) p.1) H.held s.held_spooled;
+      held_once = s.held_once;
+      counted = map-append (λ (a : CopyAttempts). a.copy) H.attempts (record { copy = H.next; count = 0 } ∷ []) ∙ (ap (λ ns. ns ++ H.next ∷ []) s.counted ∙ sym (map-append (λ (c : MadeCopy). c.number) H.made (new ∷ [])));
       used = used-with_made H c (2 ^ 40) s.used fits;
     }
   where

@@ -1,10 +1,30 @@
--- What contracts see of a store's rows.
-use Rattle.std.specs.Prelude.{[]}
+-- What contracts see of a store's rows, and what holds of them.
+use Rattle.std.specs.Prelude.{ℕ, ◌+◌, ◌≤◌, ◌&&◌, not, count_by, None}
 use Rattle.sp_copies.specs.declared.copies.Copies.TheInside.{Inside}
+use Rattle.sp_copies.specs.Counts.{spooled_count}
+use Rattle.sp_copies.specs.History.{History, is_closed, is_held}
 use Rattle.sp_copies.specs.Kept.{Kept}
+use Rattle.sp_copies.specs.Sound.{IsSoundHistory}
 
 abbrev pub kept_in : Inside → Kept
 kept_in c = record {
-  history = record { made = c.made.items; closed = c.closed.items; held = []; attempts = []; next = c.next };
-  spare = c.made.room;
+  history = record { made = c.made.items; closed = c.closed.items; held = c.held.items; attempts = c.attempts.items; next = c.next };
+  spare = c.spare;
 }
+
+-- how many copies are spooled
+abbrev pub spooled : History → ℕ
+spooled H = spooled_count H None
+
+-- how many of them no flow holds
+abbrev pub free : History → ℕ
+free H = count_by (λ c. not (is_closed H.closed c.number) && not (is_held H.held c.number)) H.made
+
+-- the history is sound, and there is room: to make `spare` copies, to close each of them and each spooled one, and to
+-- hand out each of them and each free one
+pub record IsStore (c : Inside) : Type 0 where
+  pub sound : IsSoundHistory (kept_in c).history
+  pub to_make : c.spare ≤ c.made.room
+  pub to_count : c.spare ≤ c.attempts.room
+  pub to_close : spooled (kept_in c).history + c.spare ≤ c.closed.room
+  pub to_hold : free (kept_in c).history + c.spare ≤ c.held.room

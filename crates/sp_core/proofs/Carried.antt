@@ -1,12 +1,17 @@
 -- What was prepared on a core is carried out on each ledger that it stands for.
-use Rattle.std.proofs.Common.{◌≡◌, refl, sym, subst, arith, ◌≤◌}
+use Rattle.std.proofs.Common.{◌≡◌, ℕ, List, refl, sym, subst, arith, ◌≤◌}
 use Rattle.sp_copies.specs.History.{History}
 use Rattle.sp_copies.specs.Kept.{Kept, Records}
 use Rattle.sp_ledger.specs.Ledger.{Ledger}
 use Rattle.sp_ledger.specs.Sound.{IsSound}
 use Rattle.sp_ledger.proofs.Soundness.{step_sound}
-use Rattle.sp_core.specs.Decided.{ReadyState, IsPrepared}
-use Rattle.sp_core.specs.Plan.{unit_of, carried_out}
+use Rattle.sp_core.specs.Decided.{ReadyState, IsPrepared, CarriesOut}
+use Rattle.sp_core.specs.Plan.{unit_of, carried_out, outcome_of}
+use Rattle.sp_core.specs.declared.plan.Plan.{Plan}
+use Rattle.sp_core.specs.declared.plan.Plan.TheVariants.{Provision, Publish, Bind, Unbind, Pull, IdlePull, Settle}
+use Rattle.sp_event.specs.declared.answer.Reply.{Reply}
+use Rattle.sp_event.specs.declared.request.Event.{Event}
+use Rattle.sp_ledger.specs.Step.{unit_step}
 use Rattle.sp_core.specs.Stands.{Stands, IsRoomier}
 use Rattle.sp_core.specs.State.{CoreState, ledger_of}
 
@@ -24,9 +29,29 @@ own seen kept e s = subst (λ core. Stands core (ledger_of kept)) e (record {
   sound = s;
 })
 
+-- what is planned leaves a sound ledger
+planned_sound : (L : Ledger) → IsSound L → (moment : ℕ) (caller : List ℕ) (unit : List Event) (plan : Plan) (told : List Reply) → unit_step moment caller unit L ≡ outcome_of moment plan told L → IsSound (carried_out moment plan L)
+planned_sound L s moment caller unit (Provision row) told e = step_sound L s moment caller unit (carried_out moment (Provision row) L) told e
+planned_sound L s moment caller unit (Publish row copy) told e = step_sound L s moment caller unit (carried_out moment (Publish row copy) L) told e
+planned_sound L s moment caller unit (Bind endpoint row) told e = step_sound L s moment caller unit (carried_out moment (Bind endpoint row) L) told e
+planned_sound L s moment caller unit (Unbind flow copies) told e = step_sound L s moment caller unit (carried_out moment (Unbind flow copies) L) told e
+planned_sound L s moment caller unit (Pull flow count copies) told e = step_sound L s moment caller unit (carried_out moment (Pull flow count copies) L) told e
+planned_sound L s moment caller unit (IdlePull flow count) told e = s
+planned_sound L s moment caller unit (Settle flow copy outcome) told e = step_sound L s moment caller unit (carried_out moment (Settle flow copy outcome) L) told e
+
 -- what was prepared leaves a sound ledger
 pub prepared_sound : (core : CoreState) (ready : ReadyState) → IsPrepared core ready → (L : Ledger) → Stands core L → IsSound (carried_out ready.moment ready.plan L)
-prepared_sound core ready p L s = step_sound L s.sound ready.moment ready.caller (unit_of ready.plan) (carried_out ready.moment ready.plan L) ready.replies (p.decided L s)
+prepared_sound core ready p L s = planned_sound L s.sound ready.moment ready.caller (unit_of ready.plan) ready.plan ready.replies (p.decided L s)
+
+-- the replies and the ledger of a plan are those of its outcome
+pub carries_out : (moment : ℕ) (plan : Plan) (told given : List Reply) (L : Ledger) (core : CoreState) → given ≡ told → Stands core (carried_out moment plan L) → CarriesOut (outcome_of moment plan told L) L core given
+carries_out moment (Provision row) told given L core e s = (e, s)
+carries_out moment (Publish row copy) told given L core e s = (e, s)
+carries_out moment (Bind endpoint row) told given L core e s = (e, s)
+carries_out moment (Unbind flow copies) told given L core e s = (e, s)
+carries_out moment (Pull flow count copies) told given L core e s = (e, s)
+carries_out moment (IdlePull flow count) told given L core e s = (e, s)
+carries_out moment (Settle flow copy outcome) told given L core e s = (e, s)
 
 -- the one ledger that a core stands for
 pub ledger_is : (core : CoreState) (L : Ledger) → Stands core L → ledger_of core ≡ L
@@ -52,6 +77,7 @@ roomier_again a b c p q = record {
   endpoints = omega (arith, p.endpoints, q.endpoints);
   messages = omega (arith, p.messages, q.messages);
   copies = omega (arith, p.copies, q.copies);
+  flows = omega (arith, p.flows, q.flows);
 }
 
 -- room for copies leaves all else as it was
@@ -62,4 +88,5 @@ copies_reserved core copies same more = record {
   endpoints = omega arith;
   messages = omega arith;
   copies = more;
+  flows = omega arith;
 }

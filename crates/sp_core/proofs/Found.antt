@@ -1,15 +1,24 @@
 -- A look-up in rows is one in the entries that they stand for.
-use Rattle.std.proofs.Common.{◌≡◌, ℕ, Bool, true, false, cond, List, [], ◌∷◌, map, Some, refl}
-use Rattle.std.specs.Prelude.{find, bytes_eq}
+use Rattle.std.proofs.Common.{◌≡◌, Bool, true, false, cond, List, [], ◌∷◌, map, Some, refl, ap}
+use Rattle.std.specs.Prelude.{find, filter}
 use Rattle.std.specs.Option.{option_map}
-use Rattle.sp_core.specs.declared.rows.Endpoint.{Endpoint}
-use Rattle.sp_core.specs.Rows.{endpoint_row}
-use Rattle.sp_ledger.specs.Ledger.{named}
 
-pub found_row : (name : List ℕ) (rows : List Endpoint) → option_map endpoint_row (find (λ e. bytes_eq e.name name) rows) ≡ named name (map endpoint_row rows)
-found_row name [] = refl
-found_row name (e ∷ es) = one (found_row name es) (bytes_eq e.name name)
+-- where a row is found exactly where its entry is
+pub found_row : {X Y : Type 0} (entry : X → Y) (p : X → Bool) (q : Y → Bool) → ((x : X) → p x ≡ q (entry x)) → (rows : List X) → option_map entry (find p rows) ≡ find q (map entry rows)
+found_row entry p q same [] = refl
+found_row {X} {Y} entry p q same (x ∷ xs) = one (found_row entry p q same xs) (p x) (q (entry x)) (same x)
   where
-    one : option_map endpoint_row (find (λ d. bytes_eq d.name name) es) ≡ named name (map endpoint_row es) → (b : Bool) → option_map endpoint_row (cond b (Some e) (find (λ d. bytes_eq d.name name) es)) ≡ cond b (Some (endpoint_row e)) (named name (map endpoint_row es))
-    one rest true = refl
+    one : option_map entry (find p xs) ≡ find q (map entry xs) → (b c : Bool) → b ≡ c → option_map entry (cond b (Some x) (find p xs)) ≡ cond c (Some (entry x)) (find q (map entry xs))
+    one rest true true is = refl
+    one rest false false is = rest
+    one rest true false is = absurd (cc)
+    one rest false true is = absurd (cc)
+
+-- and the rows that a test of their entries keeps stand for the entries that it keeps
+pub map_filter : {X Y : Type 0} (entry : X → Y) (q : Y → Bool) (rows : List X) → map entry (filter (λ x. q (entry x)) rows) ≡ filter q (map entry rows)
+map_filter entry q [] = refl
+map_filter {X} {Y} entry q (x ∷ xs) = one (map_filter entry q xs) (q (entry x))
+  where
+    one : map entry (filter (λ y. q (entry y)) xs) ≡ filter q (map entry xs) → (b : Bool) → map entry (cond b (x ∷ filter (λ y. q (entry y)) xs) (filter (λ y. q (entry y)) xs)) ≡ cond b (entry x ∷ filter q (map entry xs)) (filter q (map entry xs))
+    one rest true = ap (λ ys. entry x ∷ ys) rest
     one rest false = rest

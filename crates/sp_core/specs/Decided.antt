@@ -5,7 +5,7 @@ use Rattle.sp_ledger.specs.Ledger.{Ledger}
 use Rattle.sp_ledger.specs.Outcome.{Outcome, refused, idle, accepted}
 use Rattle.sp_ledger.specs.Step.{unit_step}
 use Rattle.sp_core.specs.declared.plan.Plan.{Plan}
-use Rattle.sp_core.specs.Plan.{unit_of, carried_out, HasRoom, Fits}
+use Rattle.sp_core.specs.Plan.{unit_of, outcome_of, HasRoom, Fits}
 use Rattle.sp_core.specs.Stands.{Stands}
 use Rattle.sp_core.specs.State.{CoreState}
 
@@ -18,7 +18,7 @@ pub record ReadyState : Type 0 where
 -- it was prepared on this core, and nothing was applied since: on each ledger that the core stands
 -- for the step of the unit is its plan and its replies, and there is room
 pub record IsPrepared (core : CoreState) (ready : ReadyState) : Type 0 where
-  pub decided : (L : Ledger) → Stands core L → unit_step ready.moment ready.caller (unit_of ready.plan) L ≡ accepted (carried_out ready.moment ready.plan L) ready.replies
+  pub decided : (L : Ledger) → Stands core L → unit_step ready.moment ready.caller (unit_of ready.plan) L ≡ outcome_of ready.moment ready.plan ready.replies L
   pub room : HasRoom core ready.plan
   pub fits : (L : Ledger) → Stands core L → Fits ready.plan L
   -- one reply for each event

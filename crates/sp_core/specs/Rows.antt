@@ -1,5 +1,6 @@
 -- The ledger's entries that the core's rows stand for.
 use Rattle.sp_core.specs.declared.rows.Endpoint.{Endpoint}
+use Rattle.sp_core.specs.declared.rows.Flow.{Flow}
 use Rattle.sp_core.specs.declared.rows.Published.{Published}
 use Rattle.sp_core.specs.declared.rows.Next.{Next}
 use Rattle.sp_core.specs.declared.rows.Numbers.{Numbers}
@@ -10,6 +11,9 @@ endpoint_row e = record { number = e.number; name = e.name }
 
 abbrev pub message_row : Published → ledger.Published
 message_row m = record { number = m.number; message = m.message; moment = m.moment }
+
+abbrev pub flow_row : Flow → ledger.Flow
+flow_row f = record { number = f.number; endpoint = f.endpoint; caller = f.caller }
 
 abbrev pub next_row : Next → ledger.Next
 next_row n = record { endpoint = n.endpoint; message = n.message; flow = n.flow; replay = n.replay; unit = n.unit }

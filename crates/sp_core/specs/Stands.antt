@@ -10,7 +10,7 @@ pub record Stands (core : CoreState) (L : Ledger) : Type 0 where
   pub endpoints : core.endpoints ≡ L.endpoints
   pub messages : core.messages ≡ L.messages
   pub copies : Records core.copies L.copies
-  pub flows : [] ≡ L.flows
+  pub flows : core.flows ≡ L.flows
   pub log : log_off ≡ L.log
   pub replays : [] ≡ L.replays
   pub next : core.next ≡ L.next
@@ -24,3 +24,4 @@ pub record IsRoomier (old new : CoreState) : Type 0 where
   pub endpoints : old.endpoint_room ≤ new.endpoint_room
   pub messages : old.message_room ≤ new.message_room
   pub copies : old.copies.spare ≤ new.copies.spare
+  pub flows : old.flow_room ≤ new.flow_room

@@ -1,7 +1,7 @@
 -- What contracts see of a core.
 use Rattle.std.specs.Prelude.{ℕ, List, [], false}
 use Rattle.sp_copies.specs.Kept.{Kept}
-use Rattle.sp_ledger.specs.Ledger.{Ledger, Endpoint, Published, Log, Next}
+use Rattle.sp_ledger.specs.Ledger.{Ledger, Endpoint, Flow, Published, Log, Next}
 
 -- the entries that it keeps, and the room that is reserved for more
 pub record CoreState : Type 0 where
@@ -10,6 +10,8 @@ pub record CoreState : Type 0 where
   pub messages : List Published
   pub message_room : ℕ
   pub copies : Kept
+  pub flows : List Flow
+  pub flow_room : ℕ
   pub next : Next
   pub clock : ℕ
 
@@ -23,7 +25,7 @@ ledger_of core = record {
   endpoints = core.endpoints;
   messages = core.messages;
   copies = core.copies.history;
-  flows = [];
+  flows = core.flows;
   log = log_off;
   replays = [];
   next = core.next;

@@ -3,6 +3,7 @@
 #![tactic(auto)]
 
 pub mod errors;
+mod flow_rows;
 mod look;
 pub mod plan;
 pub mod ready;

@@ -1,11 +1,12 @@
 // Look-ups over the rows.
-ghost use Rattle.std.specs.Prelude.{◌≡◌, map, find, bytes_eq};
+ghost use Rattle.std.specs.Prelude.{◌≡◌, ◌==◌, ◌&&◌, map, find, bytes_eq};
 ghost use Rattle.std.specs.Option.{option_copied, option_map};
-ghost use Rattle.sp_core.specs.Rows.{endpoint_row};
-ghost use Rattle.sp_ledger.specs.Ledger.{named};
+ghost use Rattle.sp_core.specs.Rows.{endpoint_row, flow_row, message_row};
+ghost use Rattle.sp_ledger.specs.Ledger.{flow_of, message_of, named};
 
-use crate::rows::Endpoint;
+use crate::rows::{Endpoint, Flow, Published};
 use sp_base::name::Name;
+use sp_base::number::{FlowNo, MessageNo};
 
 pub fn find_endpoint<'a>(endpoints: &'a [Endpoint], name: &Name) -> Option<&'a Endpoint>
     ensures { option_map endpoint_row (option_copied result) ≡ named name.now (map endpoint_row endpoints.now) }
@@ -17,4 +18,30 @@ fn find_row<'a>(endpoints: &'a [Endpoint], name: &Name) -> Option<&'a Endpoint>
     ensures { option_copied result ≡ find (λ e. bytes_eq e.name name.now) endpoints.now }
 {
     endpoints.iter().find(|e| e.name.same(name))
+}
+
+pub fn find_flow<'a>(flows: &'a [Flow], caller: &Name, flow: FlowNo) -> Option<&'a Flow>
+    ensures { option_map flow_row (option_copied result) ≡ flow_of (map flow_row flows.now) caller.now flow }
+{
+    find_flow_row(flows, caller, flow)
+}
+
+fn find_flow_row<'a>(flows: &'a [Flow], caller: &Name, flow: FlowNo) -> Option<&'a Flow>
+    ensures { option_copied result ≡ find (λ f. (f.number == flow) && bytes_eq f.caller caller.now) flows.now }
+{
+    flows
+        .iter()
+        .find(|f| f.number == flow && f.caller.same(caller))
+}
+
+pub fn find_message(messages: &[Published], number: MessageNo) -> Option<&Published>
+    ensures { option_map message_row (option_copied result) ≡ message_of (map message_row messages.now) number }
+{
+    find_message_row(messages, number)
+}
+
+fn find_message_row(messages: &[Published], number: MessageNo) -> Option<&Published>
+    ensures { option_copied result ≡ find (λ m. m.number == number) messages.now }
+{
+    messages.iter().find(|m| m.number == number)
 }

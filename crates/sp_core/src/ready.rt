@@ -1,4 +1,4 @@
-ghost use Rattle.std.specs.Prelude.{◌≡◌};
+ghost use Rattle.std.specs.Prelude.{◌≡◌, ◌∷◌, [], IfOk};
 ghost use Rattle.sp_core.specs.Plan.{unit_of};
 ghost use Rattle.sp_core.specs.Stands.{Stands};
 ghost use Rattle.sp_core.specs.State.{CoreState};
@@ -7,9 +7,11 @@ ghost use Rattle.sp_ledger.specs.Outcome.{is_idle};
 ghost use Rattle.sp_ledger.specs.Step.{unit_step};
 
 use crate::plan::Plan;
+use sp_base::items::Items;
 use sp_base::moment::Moment;
 use sp_base::name::Name;
 use sp_event::answer::Reply;
+use std::alloc::{AllocError, Global};
 use std::marker::Model;
 
 /// A unit that was decided, with all the memory that it needs.
@@ -52,12 +54,29 @@ impl Ready {
         }
     }
 
+    /// A unit of one event, with its plan and its reply.
+    pub fn of_one(
+        alloc: Global,
+        moment: Moment,
+        caller: &Name,
+        plan: Plan,
+        reply: Reply,
+    ) -> Result<Ready, AllocError>
+        ensures { IfOk result (λ r. r ≡ record { moment = moment; caller = caller.now; plan = plan; replies = reply ∷ [] }) }
+    {
+        let replies = Items::one(alloc, reply)?.into_vec();
+        Ok(Ready::new(moment, caller.copy(alloc)?, plan, replies))
+    }
+
     /// Whether the unit changes nothing.
     pub fn idle(&self) -> bool
         ensures { (core : CoreState) → IsPrepared core self.now → (L : Ledger) → Stands core L →
             result ≡ is_idle (unit_step self.now.moment self.now.caller (unit_of self.now.plan) L) }
     {
-        false
+        match &self.plan {
+            Plan::IdlePull { .. } => true,
+            _ => false,
+        }
     }
 
     /// The unit's parts.

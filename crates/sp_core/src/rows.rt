@@ -1,6 +1,6 @@
 use sp_base::moment::Moment;
 use sp_base::name::Name;
-use sp_base::number::{EndpointNo, MessageNo};
+use sp_base::number::{EndpointNo, FlowNo, MessageNo};
 use sp_message::message::Message;
 
 /// The number that each kind begins with.
@@ -49,4 +49,12 @@ pub struct Published {
     pub number: MessageNo,
     pub message: Message,
     pub moment: Moment,
+}
+
+/// A flow that a caller has bound to an endpoint.
+#[derive(Debug, Drop)]
+pub struct Flow {
+    pub number: FlowNo,
+    pub endpoint: EndpointNo,
+    pub caller: Name,
 }

@@ -1,33 +1,39 @@
-ghost use Rattle.std.specs.Prelude.{◌≡◌, ◌≤◌, ◌<◌, ◌+◌, ◌-◌, ◌^◌, ℕ, ◌∷◌, [], IfOk, OnOk, OnErr, is_some, Some, length, IfErr};
+ghost use Rattle.std.specs.Prelude.{◌≡◌, ◌≤◌, ◌<◌, ◌+◌, ◌-◌, ◌^◌, ℕ, ◌∷◌, [], IfOk, OnOk, OnErr, is_some, Some, length, max, IfErr};
 ghost use Rattle.std.specs.Option.{option_copied, option_map};
 ghost use Rattle.sp_copies.specs.History.{used_bytes};
 ghost use Rattle.sp_core.specs.Decided.{IsPrepared, ReadyState};
 ghost use Rattle.sp_core.specs.Errors.{OnRefused, OnUnanswered};
 ghost use Rattle.sp_core.specs.Plan.{unit_of};
-ghost use Rattle.sp_core.specs.Rows.{endpoint_row, empty_at};
+ghost use Rattle.sp_core.specs.Rows.{endpoint_row, flow_row, empty_at};
 ghost use Rattle.sp_core.specs.Stands.{Stands, IsRoomier};
-ghost use Rattle.sp_ledger.specs.Ledger.{Ledger, named, used_of};
+ghost use Rattle.sp_ledger.specs.Ledger.{Ledger, flow_of, named, used_of};
 ghost use Rattle.sp_ledger.specs.Outcome.{refused};
 ghost use Rattle.sp_ledger.specs.Step.{unit_step};
 
 use crate::errors::PrepareError;
-use crate::look::find_endpoint;
+use crate::flow_rows::FlowRows;
+use crate::look::{find_endpoint, find_flow};
 use crate::ready::Ready;
-use crate::rows::{Endpoint, Next, Numbers, Published};
+use crate::rows::{Endpoint, Flow, Next, Numbers, Published};
 use sp_base::failure::Memory;
 use sp_base::moment::Moment;
 use sp_base::name::Name;
+use sp_base::number::{EndpointNo, FlowNo};
 use sp_base::rows::Rows;
 use sp_copies::copies::Copies;
 use sp_event::answer::Reply;
 use sp_event::request::Event;
-use std::alloc::Global;
+use std::alloc::{AllocError, Global};
 use std::marker::Model;
 
 mod apply;
+mod bind;
 mod provision;
 mod publish;
+mod pull;
 mod query;
+mod settle;
+mod unbind;
 
 /// The spool's state.
 #[derive(Drop)]
@@ -35,6 +41,7 @@ pub struct Core {
     endpoints: Rows<Endpoint>,
     messages: Rows<Published>,
     copies: Copies,
+    flows: FlowRows,
     next: Next,
     clock: Moment,
 }
@@ -63,6 +70,7 @@ impl Core {
             endpoints: Rows::new(alloc),
             messages: Rows::new(alloc),
             copies: Copies::new(alloc, start.copy),
+            flows: FlowRows::new(alloc),
             next: Next {
                 endpoint: start.endpoint,
                 message: start.message,
@@ -113,6 +121,14 @@ impl Core {
         match &unit[0] {
             Event::Provision { endpoint } => self.prepare_provision(alloc, now, from, endpoint),
             Event::Publish { message } => self.prepare_publish(alloc, now, from, message),
+            Event::Bind { endpoint } => self.prepare_bind(alloc, now, from, endpoint),
+            Event::Unbind { flow } => self.prepare_unbind(alloc, now, from, *flow),
+            Event::Pull { flow, count } => self.prepare_pull(alloc, now, from, *flow, *count),
+            Event::Settle {
+                flow,
+                copy,
+                outcome,
+            } => self.prepare_settle(alloc, now, from, *flow, *copy, *outcome),
         }
     }
 
@@ -130,6 +146,40 @@ impl Core {
     {
         let found = self.find(name)?;
         Some(self.copies.used(found.number))
+    }
+
+    // A copy of the endpoint of a name.
+    fn endpoint_of(&self, alloc: Global, name: &Name) -> Result<Option<Endpoint>, AllocError>
+        ensures { IfOk result (λ found. (L : Ledger) → Stands self.now L → option_map endpoint_row found ≡ named name.now L.endpoints) }
+    {
+        match self.find(name) {
+            None => Ok(None),
+            Some(found) => Ok(Some(Endpoint {
+                number: found.number,
+                name: found.name.copy(alloc)?,
+            })),
+        }
+    }
+
+    // The endpoint to which a flow of a caller is bound.
+    fn endpoint_bound(&self, caller: &Name, flow: FlowNo) -> Option<EndpointNo>
+        ensures { (L : Ledger) → Stands self.now L → result ≡ option_map (λ f. f.endpoint) (flow_of L.flows caller.now flow) }
+    {
+        let found = self.find_bound(caller, flow)?;
+        Some(found.endpoint)
+    }
+
+    fn find_bound(&self, caller: &Name, flow: FlowNo) -> Option<&Flow>
+        ensures { (L : Ledger) → Stands self.now L → option_map flow_row (option_copied result) ≡ flow_of L.flows caller.now flow }
+    {
+        find_flow(self.flows.as_slice(), caller, flow)
+    }
+
+    // The later of the ledger's moment and another.
+    fn later(&self, moment: Moment) -> Moment
+        ensures { (L : Ledger) → Stands self.now L → result ≡ max L.now moment }
+    {
+        self.clock.max(moment)
     }
 
     fn find(&self, name: &Name) -> Option<&Endpoint>

@@ -1,8 +1,10 @@
 use sp_base::items::Items;
 use sp_base::name::Name;
-use sp_base::number::{CopyNo, EndpointNo, MessageNo};
+use sp_base::number::{CopyNo, EndpointNo, FlowNo, MessageNo};
 use sp_base::refusal::Refusal;
 use sp_copies::closed::{CauseCount, Fate};
+use sp_message::message::Dest;
+use sp_message::payload::Payload;
 
 /// A copy as a publish tells it.
 #[derive(Debug, Drop)]
@@ -10,6 +12,32 @@ pub struct PublishedCopy {
     pub copy: CopyNo,
     pub endpoint: Name,
     pub fate: Fate,
+}
+
+/// A copy as it is handed out.
+#[derive(Debug, Drop)]
+pub struct Delivery {
+    /// How often the copy has been handed out, with this time.
+    pub attempt: u64,
+    pub copy: CopyNo,
+    pub message: MessageNo,
+    pub dest: Dest,
+    pub payload: Payload,
+}
+
+/// A copy, and what has become of it.
+#[derive(Clone, Copy, Debug, PartialEq, Eq)]
+pub struct CopyFate {
+    pub copy: CopyNo,
+    pub fate: Fate,
+}
+
+/// Where a copy is, which message it is of, and how often it has been handed out.
+#[derive(Clone, Copy, Debug, PartialEq, Eq)]
+pub struct CopyDetails {
+    pub endpoint: EndpointNo,
+    pub message: MessageNo,
+    pub attempts: u64,
 }
 
 /// How many copies were made, and how many of them have which fate.
@@ -38,7 +66,34 @@ pub enum Reply {
         message: MessageNo,
         copies: Items<PublishedCopy>,
     },
+    /// `discarded` is how many copies the bind discarded.
+    Bind {
+        endpoint: Name,
+        flow: FlowNo,
+        discarded: u64,
+    },
+    /// The held copies that were closed, and how many are spooled again.
+    Unbind {
+        flow: FlowNo,
+        closed: Items<CopyFate>,
+        returned: u64,
+    },
+    /// The deliveries stand in order of the copies' numbers.
+    Pull {
+        flow: FlowNo,
+        deliveries: Items<Delivery>,
+    },
+    Settle {
+        copy: CopyNo,
+        fate: Fate,
+    },
     Tally(Tally),
+    /// The details are told of a copy that was made and whose closing, if any, is kept.
+    Copy {
+        copy: CopyNo,
+        fate: Fate,
+        details: Option<CopyDetails>,
+    },
 }
 
 /// How a request ended.

@@ -1,13 +1,44 @@
 use sp_base::name::Name;
+use sp_base::number::{CopyNo, FlowNo};
 use sp_message::message::Message;
+
+/// How a flow settles a copy that it holds.
+#[derive(Clone, Copy, Debug, PartialEq, Eq)]
+pub enum Outcome {
+    /// The work is done: the copy is closed, and nobody gets it again.
+    Accepted,
+}
 
 /// A request that may change the ledger.
 #[derive(Debug, Drop)]
 pub enum Event {
     /// A queue of this name comes.
-    Provision { endpoint: Name },
+    Provision {
+        endpoint: Name,
+    },
     /// A message is published; a copy is made for each endpoint that takes it.
-    Publish { message: Message },
+    Publish {
+        message: Message,
+    },
+    /// A new flow of the caller is bound to an endpoint.
+    Bind {
+        endpoint: Name,
+    },
+    /// A flow of the caller gives back what it holds, and goes.
+    Unbind {
+        flow: FlowNo,
+    },
+    /// A flow of the caller is handed out at most `count` copies, from 1 to 64.
+    Pull {
+        flow: FlowNo,
+        count: u64,
+    },
+    /// A flow of the caller settles a copy that it holds.
+    Settle {
+        flow: FlowNo,
+        copy: CopyNo,
+        outcome: Outcome,
+    },
 }
 
 /// A request that only looks.
@@ -16,6 +47,8 @@ pub enum Query {
     /// How many copies an endpoint has had, and what became of them; over all endpoints that
     /// ever were, where none is named.
     Tally { endpoint: Option<Name> },
+    /// What has become of a copy.
+    Copy { copy: CopyNo },
 }
 
 /// A request: to do something, or to look.

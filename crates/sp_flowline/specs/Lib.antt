@@ -1,7 +1,12 @@
 pub mod Answers
+pub mod Asks
+pub mod Fates
 pub mod Fields
+pub mod FlowEvents
+pub mod FlowReplies
 pub mod Op
 pub mod Outcome
+pub mod Payloads
 pub mod Refusals
 pub mod Replies
 pub mod Request

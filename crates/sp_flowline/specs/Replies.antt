@@ -1,29 +1,17 @@
 -- What a reply shows, as a JSON value. The keys stand in the order of their bytes.
-use Rattle.std.specs.Prelude.{ℕ, List, map, fold, codes}
+use Rattle.std.specs.Prelude.{ℕ, List, map, fold, codes, Option, Some, None}
 use Rattle.serde_json.specs.View.{items_of}
 use Rattle.serde_json.specs.Data.{Data, string, object, array, Members, member, no_members, put}
-use Rattle.sp_copies.specs.declared.closed.Cause.{Cause}
-use Rattle.sp_copies.specs.declared.closed.Cause.TheVariants as causes
 use Rattle.sp_copies.specs.declared.closed.CauseCount.{CauseCount}
 use Rattle.sp_copies.specs.declared.closed.Fate.{Fate}
-use Rattle.sp_copies.specs.declared.closed.Fate.TheVariants as fates
 use Rattle.sp_event.specs.declared.answer.PublishedCopy.{PublishedCopy}
+use Rattle.sp_event.specs.declared.answer.CopyDetails.{CopyDetails}
 use Rattle.sp_event.specs.declared.answer.Tally.{Tally}
 use Rattle.sp_event.specs.declared.answer.Reply.{Reply}
 use Rattle.sp_event.specs.declared.answer.Reply.TheVariants as replies
+use Rattle.sp_flowline.specs.Fates.{cause_word, with_fate}
+use Rattle.sp_flowline.specs.FlowReplies.{bind_data, unbind_data, pull_data, settle_data}
 use Rattle.sp_flowline.specs.Refusals.{whole}
-
-abbrev pub cause_word : Cause → List ℕ
-cause_word causes.NotSpooled = codes "NotSpooled"
-cause_word causes.Expired = codes "Expired"
-cause_word causes.RedeliveryExceeded = codes "RedeliveryExceeded"
-cause_word causes.Rejected = codes "Rejected"
-cause_word causes.DmqMissing = codes "DmqMissing"
-cause_word causes.DmqSelf = codes "DmqSelf"
-cause_word causes.DmqDisabled = codes "DmqDisabled"
-cause_word causes.DmqQuota = codes "DmqQuota"
-cause_word causes.TopicChanged = codes "TopicChanged"
-cause_word causes.Deleted = codes "Deleted"
 
 -- an endpoint that came, and its number
 abbrev pub provision_data : List ℕ → ℕ → ℕ → Data
@@ -33,31 +21,11 @@ provision_data endpoint n unit = object
     (member (codes "ok") (string (codes "provision"))
     (member (codes "unit") (whole unit) no_members))))
 
--- a copy that was made, and its fate
-abbrev pub plain_copy : List ℕ → ℕ → List ℕ → Data
-plain_copy word copy endpoint = object
-    (member (codes "copy") (whole copy)
-    (member (codes "endpoint") (string endpoint)
-    (member (codes "fate") (string word) no_members)))
-
-abbrev pub copy_data : Fate → ℕ → List ℕ → Data
-copy_data fates.Never copy endpoint = plain_copy (codes "never") copy endpoint
-copy_data fates.Spooled copy endpoint = plain_copy (codes "spooled") copy endpoint
-copy_data fates.Accepted copy endpoint = plain_copy (codes "accepted") copy endpoint
-copy_data (fates.Moved to) copy endpoint = object
-    (member (codes "copy") (whole copy)
-    (member (codes "endpoint") (string endpoint)
-    (member (codes "fate") (string (codes "moved"))
-    (member (codes "to") (whole to) no_members))))
-copy_data (fates.Discarded cause) copy endpoint = object
-    (member (codes "cause") (string (cause_word cause))
-    (member (codes "copy") (whole copy)
-    (member (codes "endpoint") (string endpoint)
-    (member (codes "fate") (string (codes "discarded")) no_members))))
-copy_data fates.Earlier copy endpoint = plain_copy (codes "earlier") copy endpoint
-
+-- a copy that was made, its endpoint and its fate
 abbrev pub told_data : PublishedCopy → Data
-told_data c = copy_data c.fate c.copy c.endpoint
+told_data c = object (with_fate c.fate
+    (member (codes "copy") (whole c.copy)
+    (member (codes "endpoint") (string c.endpoint) no_members)))
 
 abbrev pub copies_data : List PublishedCopy → Data
 copies_data copies = array (items_of (map told_data copies))
@@ -88,8 +56,28 @@ tally_data t unit = object
     (member (codes "unit") (whole unit)
     (member (codes "used") (whole t.used) no_members)))))))))
 
+-- fields with the details of a copy, where they are told
+abbrev pub with_details : Option CopyDetails → Members → Members
+with_details None ms = ms
+with_details (Some details) ms =
+    put (codes "attempts") (whole details.attempts)
+    (put (codes "endpoint") (whole details.endpoint)
+    (put (codes "message") (whole details.message) ms))
+
+-- what has become of a copy
+abbrev pub copy_data : ℕ → Fate → Option CopyDetails → ℕ → Data
+copy_data copy fate details unit = object (with_fate fate (with_details details
+    (member (codes "copy") (whole copy)
+    (member (codes "ok") (string (codes "copy"))
+    (member (codes "unit") (whole unit) no_members)))))
+
 -- a reply at a number of units
 abbrev pub reply_data : Reply → ℕ → Data
 reply_data (replies.Provision endpoint n) unit = provision_data endpoint n unit
 reply_data (replies.Publish message copies) unit = publish_data message copies unit
+reply_data (replies.Bind endpoint flow discarded) unit = bind_data endpoint flow discarded unit
+reply_data (replies.Unbind flow closed returned) unit = unbind_data flow closed returned unit
+reply_data (replies.Pull flow deliveries) unit = pull_data flow deliveries unit
+reply_data (replies.Settle copy fate) unit = settle_data copy fate unit
 reply_data (replies.Tally tally) unit = tally_data tally unit
+reply_data (replies.Copy copy fate details) unit = copy_data copy fate details unit

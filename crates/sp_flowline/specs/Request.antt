@@ -1,19 +1,14 @@
 -- Which requests the bytes of a line are, and what is wrong with those that are none.
-use Rattle.std.specs.Prelude.{◌≡◌, ◌==◌, ◌⊎◌, ℕ, List, [], not, false, Option, Some, None, if◌then◌else◌, codes, IsUtf8}
+use Rattle.std.specs.Prelude.{◌≡◌, ◌==◌, ◌⊎◌, ◌||◌, ℕ, List, not, false, Option, Some, None, if◌then◌else◌, codes, IsUtf8}
 use Rattle.std.specs.List.{list_any}
 use Rattle.serde_json.specs.Data.{Data}
 use Rattle.serde_json.specs.Read.{read}
 use Rattle.sp_base.specs.declared.refusal.Refusal.{Refusal}
 use Rattle.sp_base.specs.declared.refusal.Refusal.TheVariants.{BadRequest}
-use Rattle.sp_message.specs.declared.message.Message.{Message}
-use Rattle.sp_message.specs.declared.message.Dest.TheVariants.{Queue}
 use Rattle.sp_event.specs.declared.request.Ask.{Ask}
-use Rattle.sp_event.specs.declared.request.Ask.TheVariants.{Do, Look}
-use Rattle.sp_event.specs.declared.request.Event.TheVariants as events
-use Rattle.sp_event.specs.declared.request.Query.TheVariants as queries
 use Rattle.sp_flowline.specs.declared.op.Op.{Op}
-use Rattle.sp_flowline.specs.declared.op.Op.TheVariants as ops
-use Rattle.sp_flowline.specs.Fields.{has_key, another_field, op_in, name_at, optional_name_at, payload_at}
+use Rattle.sp_flowline.specs.Fields.{op_at, has_required, another_field, has_two_payloads}
+use Rattle.sp_flowline.specs.Asks.{ask_in}
 
 -- a request, or why there is none
 pub data Reading : Type 0 where
@@ -21,7 +16,8 @@ pub data Reading : Type 0 where
   refused : Refusal → Reading
 
 -- the bytes are no JSON text of one line; the value is no object with a known op; a required field
--- is missing; there is a field that the op doesn't have; a field has a value outside its form
+-- is missing; there is a field that the op doesn't have, or two that exclude each other; a field
+-- has a value outside its form
 abbrev pub no_json : Reading
 no_json = refused (BadRequest 0)
 
@@ -37,41 +33,25 @@ foreign = refused (BadRequest 3)
 abbrev pub malformed : Reading
 malformed = refused (BadRequest 4)
 
--- the request that is made of a value, or a value outside its form
-abbrev pub made_of : {A : Type 0} → Option A → (A → Reading) → Reading
-made_of None f = malformed
-made_of (Some x) f = f x
+-- what the values of the fields ask for, unless one is outside its form
+abbrev pub asked : Option Ask → Reading
+asked (Some ask) = request ask
+asked None = malformed
 
-abbrev pub provision_in : Data → Reading
-provision_in d =
-    if not (has_key (codes "endpoint") d) then missing
-    else (if another_field ops.Provision d then foreign
-    else made_of (name_at (codes "endpoint") d) (λ name. request (Do (events.Provision name))))
-
--- a message of this payload for a queue, without a time to live, that isn't eligible for a dead-message queue and has no properties
-abbrev pub message_to : List ℕ → List ℕ → Message
-message_to queue payload = record { dest = Queue queue; payload = payload; ttl = 0; eligible = false; properties = [] }
-
-abbrev pub publish_in : Data → Reading
-publish_in d =
-    if not (has_key (codes "queue") d) then missing
-    else (if another_field ops.Publish d then foreign
-    else made_of (name_at (codes "queue") d) (λ queue. made_of (payload_at (codes "payload") d) (λ payload. request (Do (events.Publish (message_to queue payload))))))
-
-abbrev pub tally_in : Data → Reading
-tally_in d =
-    if another_field ops.Tally d then foreign
-    else made_of (optional_name_at (codes "endpoint") d) (λ endpoint. request (Look (queries.Tally endpoint)))
+-- what is read of the fields: first which they are, and then their values
+abbrev pub fields_of : Op → Data → Reading
+fields_of op d =
+    if not (has_required op d) then missing
+    else (if another_field op d || has_two_payloads d then foreign
+    else asked (ask_in op d))
 
 abbrev pub request_of : Option Op → Data → Reading
 request_of None d = no_op
-request_of (Some ops.Provision) d = provision_in d
-request_of (Some ops.Publish) d = publish_in d
-request_of (Some ops.Tally) d = tally_in d
+request_of (Some op) d = fields_of op d
 
 -- what a JSON value is read as
 abbrev pub reading_of : Data → Reading
-reading_of d = request_of (op_in (codes "op") d) d
+reading_of d = request_of (op_at (codes "op") d) d
 
 -- the bytes are a JSON text of this value without a line feed in it
 pub record IsJsonLine (line : List ℕ) (d : Data) : Type 0 where

@@ -1,23 +1,44 @@
 // The fields of a JSON object.
-ghost use Rattle.std.specs.Prelude.{◌≡◌, ◌==◌, not, option_map, string_bytes, IfOk};
-ghost use Rattle.std.specs.List.{list_any};
+ghost use Rattle.std.specs.Prelude.{◌≡◌, ◌==◌, not, option_map, string_bytes, codes, IfOk};
+ghost use Rattle.std.specs.List.{list_any, list_all};
 ghost use Rattle.serde_json.specs.View.{view};
 ghost use Rattle.std.specs.BTreeMap.{keys};
 ghost use Rattle.sp_flowline.specs.Op.{has_field};
-ghost use Rattle.sp_flowline.specs.Fields.{has_key, another_field, text_at, op_in, name_at, optional_name_at, payload_at};
+ghost use Rattle.sp_flowline.specs.Fields.{has_key, has_required, another_field, has_two_payloads, text_at, op_at, name_at, optional_name_at, whole_at, number_at, count_at, outcome_at};
 
 use crate::op::Op;
 use serde_json::{Map, Value};
-use sp_base::bytes::Bytes;
 use sp_base::name::{Name, NameError};
-use sp_message::payload::{LONGEST_PAYLOAD, Payload};
+use sp_event::request::Outcome;
 use std::alloc::{AllocError, Global};
+
+/// The greatest number of a flow or a copy.
+const GREATEST_NUMBER: u64 = 4_611_686_018_427_387_904;
+
+/// The most copies that a pull asks for.
+const GREATEST_COUNT: u64 = 64;
 
 /// Whether there is a field of this name.
 pub fn has_key(value: &Value, key: &str) -> bool
     ensures { result ≡ has_key key.now (view value.now) }
 {
     value.get(key).is_some()
+}
+
+/// Whether the fields that the operation requires are there.
+pub fn has_required(value: &Value, op: Op) -> bool
+    ensures { result ≡ has_required op (view value.now) }
+{
+    match op {
+        Op::Provision | Op::Bind => has_key(value, "endpoint"),
+        Op::Publish => has_key(value, "queue"),
+        Op::Unbind | Op::Pull => has_key(value, "flow"),
+        Op::Settle => {
+            has_key(value, "flow") && has_key(value, "copy") && has_key(value, "outcome")
+        }
+        Op::Tally => true,
+        Op::Copy => has_key(value, "copy"),
+    }
 }
 
 /// Whether there is a field that the operation doesn't have.
@@ -36,15 +57,23 @@ fn another_key(map: &Map<String, Value>, op: Op) -> bool
     map.keys().any(|key| !op.has_field(key.as_str()))
 }
 
+/// Whether both forms of a payload are there.
+pub fn has_two_payloads(value: &Value) -> bool
+    ensures { result ≡ has_two_payloads (view value.now) }
+{
+    has_key(value, "payload") && has_key(value, "payload64")
+}
+
 /// The operation that a field names.
-pub fn op_in(value: &Value, key: &str) -> Option<Op>
-    ensures { result ≡ op_in key.now (view value.now) }
+pub fn op_at(value: &Value, key: &str) -> Option<Op>
+    ensures { result ≡ op_at key.now (view value.now) }
 {
     let word = text_at(value, key)?;
     Op::named(word)
 }
 
-fn text_at<'a>(value: &'a Value, key: &str) -> Option<&'a str>
+/// The text in a field.
+pub fn text_at<'a>(value: &'a Value, key: &str) -> Option<&'a str>
     ensures { option_map (λ s. s.now) result ≡ text_at key.now (view value.now) }
 {
     value.get(key).and_then(Value::as_str)
@@ -81,19 +110,46 @@ pub fn optional_name_at(
     }
 }
 
-/// The payload in a field, empty where the field is absent. None where the field is no payload.
-pub fn payload_at(alloc: Global, value: &Value, key: &str) -> Result<Option<Payload>, AllocError>
-    ensures { IfOk result (λ r. r ≡ payload_at key.now (view value.now)) }
+// The whole number in a field, which is an integer from 0 to 2^64 - 1.
+fn whole_at(value: &Value, key: &str) -> Option<u64>
+    ensures { result ≡ whole_at key.now (view value.now) }
+{
+    value.get(key).and_then(Value::as_u64)
+}
+
+/// The number of a flow or a copy in a field, from 0 to 2^62. None where the field is no such number.
+pub fn number_at(value: &Value, key: &str) -> Option<u64>
+    ensures { result ≡ number_at key.now (view value.now) }
+{
+    let number = whole_at(value, key)?;
+    if number > GREATEST_NUMBER {
+        return None;
+    }
+    Some(number)
+}
+
+/// The count in a field, from 1 to 64; 1 where the field is absent. None where the field is there
+/// and is no such count.
+pub fn count_at(value: &Value, key: &str) -> Option<u64>
+    ensures { result ≡ count_at key.now (view value.now) }
 {
     if !has_key(value, key) {
-        return Ok(Some(Payload::from_bytes(Bytes::from_vec(Vec::new(alloc)))));
+        return Some(1);
     }
-    let Some(text) = text_at(value, key) else {
-        return Ok(None);
-    };
-    if text.len() > LONGEST_PAYLOAD {
-        return Ok(None);
+    let count = whole_at(value, key)?;
+    if count < 1 || count > GREATEST_COUNT {
+        return None;
     }
-    let bytes = Bytes::copy_of(alloc, text.as_bytes())?;
-    Ok(Some(Payload::from_bytes(bytes)))
+    Some(count)
+}
+
+/// The outcome that a field names.
+pub fn outcome_at(value: &Value, key: &str) -> Option<Outcome>
+    ensures { result ≡ outcome_at key.now (view value.now) }
+{
+    let word = text_at(value, key)?;
+    if word == "accepted" {
+        return Some(Outcome::Accepted);
+    }
+    None
 }

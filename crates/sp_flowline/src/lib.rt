@@ -2,9 +2,15 @@
 //! JSON, as `serde_json` reads and writes it.
 #![tactic(auto)]
 
+mod asks;
+mod fates;
 mod fields;
+mod flow_events;
+mod flow_replies;
 pub mod line;
+mod members;
 pub mod op;
+mod payloads;
 pub mod read;
 mod refusals;
 mod replies;

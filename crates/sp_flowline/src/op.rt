@@ -6,7 +6,12 @@ ghost use Rattle.sp_flowline.specs.Op.{op_named, has_field};
 pub enum Op {
     Provision,
     Publish,
+    Bind,
+    Unbind,
+    Pull,
+    Settle,
     Tally,
+    Copy,
 }
 
 impl Op {
@@ -20,8 +25,23 @@ impl Op {
         if word == "publish" {
             return Some(Op::Publish);
         }
+        if word == "bind" {
+            return Some(Op::Bind);
+        }
+        if word == "unbind" {
+            return Some(Op::Unbind);
+        }
+        if word == "pull" {
+            return Some(Op::Pull);
+        }
+        if word == "settle" {
+            return Some(Op::Settle);
+        }
         if word == "tally" {
             return Some(Op::Tally);
+        }
+        if word == "copy" {
+            return Some(Op::Copy);
         }
         None
     }
@@ -30,10 +50,16 @@ impl Op {
     pub fn has_field(self, key: &str) -> bool
         ensures { result ≡ has_field self key.now }
     {
+        if key == "op" {
+            return true;
+        }
         match self {
-            Op::Provision => key == "op" || key == "endpoint",
-            Op::Publish => key == "op" || key == "queue" || key == "payload",
-            Op::Tally => key == "op" || key == "endpoint",
+            Op::Provision | Op::Bind | Op::Tally => key == "endpoint",
+            Op::Publish => key == "queue" || key == "payload" || key == "payload64",
+            Op::Unbind => key == "flow",
+            Op::Pull => key == "flow" || key == "count",
+            Op::Settle => key == "flow" || key == "copy" || key == "outcome",
+            Op::Copy => key == "copy",
         }
     }
 }

@@ -1,16 +1,14 @@
 ghost use Rattle.std.specs.Prelude.{◌≡◌, ◌==◌, codes, Some, None};
 ghost use Rattle.std.specs.List.{list_any};
 ghost use Rattle.serde_json.specs.View.{view};
-ghost use Rattle.sp_flowline.specs.Request.{IsReadAs, provision_in, publish_in, tally_in, reading_of};
+ghost use Rattle.sp_flowline.specs.Request.{IsReadAs, reading_of};
 ghost use Rattle.sp_flowline.specs.Outcome.{Reads, Gives};
 
-use crate::fields::{another_field, has_key, name_at, op_in, optional_name_at, payload_at};
-use crate::op::Op;
+use crate::asks::ask_in;
+use crate::fields::{another_field, has_required, has_two_payloads, op_at};
 use serde_json::Value;
 use sp_base::refusal::Refusal;
-use sp_event::request::{Ask, Event, Query};
-use sp_message::message::{Dest, Message};
-use sp_message::property::Properties;
+use sp_event::request::Ask;
 use std::alloc::{AllocError, Global};
 use thiserror::Error;
 
@@ -38,8 +36,8 @@ impl From<AllocError> for ReadError {
 /// The request that a line is, without its line feed. A line that is none is refused as a bad
 /// request whose `at` is the first that applies: 0, the bytes are no JSON text of one line;
 /// 1, they are no object, or its op is missing, no text or unknown; 2, a required field is
-/// missing; 3, there is a field that the op doesn't have; 4, a field has the wrong JSON kind or
-/// a value outside its range.
+/// missing; 3, there is a field that the op doesn't have, or there are two that exclude each
+/// other; 4, a field has the wrong JSON kind or a value outside its range.
 pub fn read(alloc: Global, line: &[u8]) -> Result<Ask, ReadError>
     ensures { Reads line.now result }
 {
@@ -75,62 +73,17 @@ fn bad(at: u64) -> ReadError
 fn read_value(alloc: Global, value: &Value) -> Result<Ask, ReadError>
     ensures { Gives (reading_of (view value.now)) result }
 {
-    match op_in(value, "op") {
-        None => Err(bad(1)),
-        Some(Op::Provision) => read_provision(alloc, value),
-        Some(Op::Publish) => read_publish(alloc, value),
-        Some(Op::Tally) => read_tally(alloc, value),
-    }
-}
-
-fn read_provision(alloc: Global, value: &Value) -> Result<Ask, ReadError>
-    ensures { Gives (provision_in (view value.now)) result }
-{
-    if !has_key(value, "endpoint") {
+    let Some(op) = op_at(value, "op") else {
+        return Err(bad(1));
+    };
+    if !has_required(value, op) {
         return Err(bad(2));
     }
-    if another_field(value, Op::Provision) {
+    if another_field(value, op) || has_two_payloads(value) {
         return Err(bad(3));
     }
-    let Some(endpoint) = name_at(alloc, value, "endpoint")? else {
-        return Err(bad(4));
-    };
-    Ok(Ask::Do(Event::Provision { endpoint }))
-}
-
-fn read_publish(alloc: Global, value: &Value) -> Result<Ask, ReadError>
-    ensures { Gives (publish_in (view value.now)) result }
-{
-    if !has_key(value, "queue") {
-        return Err(bad(2));
+    match ask_in(alloc, value, op)? {
+        Some(ask) => Ok(ask),
+        None => Err(bad(4)),
     }
-    if another_field(value, Op::Publish) {
-        return Err(bad(3));
-    }
-    let Some(queue) = name_at(alloc, value, "queue")? else {
-        return Err(bad(4));
-    };
-    let Some(payload) = payload_at(alloc, value, "payload")? else {
-        return Err(bad(4));
-    };
-    let message = Message {
-        dest: Dest::Queue(queue),
-        payload,
-        ttl: 0,
-        eligible: false,
-        properties: Properties::none(alloc),
-    };
-    Ok(Ask::Do(Event::Publish { message }))
-}
-
-fn read_tally(alloc: Global, value: &Value) -> Result<Ask, ReadError>
-    ensures { Gives (tally_in (view value.now)) result }
-{
-    if another_field(value, Op::Tally) {
-        return Err(bad(3));
-    }
-    let Some(endpoint) = optional_name_at(alloc, value, "endpoint")? else {
-        return Err(bad(4));
-    };
-    Ok(Ask::Look(Query::Tally { endpoint }))
 }

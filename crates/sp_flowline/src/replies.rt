@@ -1,29 +1,15 @@
 // Replies as JSON values.
-ghost use Rattle.std.specs.Prelude.{◌≡◌, IfOk};
-ghost use Rattle.serde_json.specs.View.{view};
-ghost use Rattle.sp_flowline.specs.Replies.{cause_word, provision_data, plain_copy, copy_data, copies_data, publish_data, causes_data, tally_data, reply_data};
+ghost use Rattle.std.specs.Prelude.{◌≡◌, IfOk, OnOk};
+ghost use Rattle.serde_json.specs.View.{view, members_view};
+ghost use Rattle.sp_flowline.specs.Replies.{provision_data, told_data, copies_data, publish_data, causes_data, tally_data, with_details, copy_data, reply_data};
 
+use crate::fates::{cause_word, put_fate};
+use crate::flow_replies::{bind_value, pull_value, settle_value, unbind_value};
+use crate::members::{Members, put_text, put_whole};
 use serde_json::{Map, Value, json};
-use sp_copies::closed::{Cause, CauseCount, Fate};
-use sp_event::answer::{PublishedCopy, Reply, Tally};
+use sp_copies::closed::{CauseCount, Fate};
+use sp_event::answer::{CopyDetails, PublishedCopy, Reply, Tally};
 use std::alloc::{AllocError, Global};
-
-fn cause_word(cause: Cause) -> &'static str
-    ensures { result.now ≡ cause_word cause }
-{
-    match cause {
-        Cause::NotSpooled => "NotSpooled",
-        Cause::Expired => "Expired",
-        Cause::RedeliveryExceeded => "RedeliveryExceeded",
-        Cause::Rejected => "Rejected",
-        Cause::DmqMissing => "DmqMissing",
-        Cause::DmqSelf => "DmqSelf",
-        Cause::DmqDisabled => "DmqDisabled",
-        Cause::DmqQuota => "DmqQuota",
-        Cause::TopicChanged => "TopicChanged",
-        Cause::Deleted => "Deleted",
-    }
-}
 
 fn provision_value(
     alloc: Global,
@@ -36,27 +22,14 @@ fn provision_value(
     json!(in alloc; {"endpoint": endpoint, "number": number, "ok": "provision", "unit": unit})
 }
 
-fn plain_copy(alloc: Global, word: &str, copy: u64, endpoint: &str) -> Result<Value, AllocError>
-    ensures { IfOk result (λ v. view v ≡ plain_copy word.now copy endpoint.now) }
+fn told_value(alloc: Global, told: &PublishedCopy) -> Result<Value, AllocError>
+    ensures { IfOk result (λ v. view v ≡ told_data told.now) }
 {
-    json!(in alloc; {"copy": copy, "endpoint": endpoint, "fate": word})
-}
-
-fn copy_value(alloc: Global, fate: Fate, copy: u64, endpoint: &str) -> Result<Value, AllocError>
-    ensures { IfOk result (λ v. view v ≡ copy_data fate copy endpoint.now) }
-{
-    match fate {
-        Fate::Never => plain_copy(alloc, "never", copy, endpoint),
-        Fate::Spooled => plain_copy(alloc, "spooled", copy, endpoint),
-        Fate::Accepted => plain_copy(alloc, "accepted", copy, endpoint),
-        Fate::Moved(to) => {
-            json!(in alloc; {"copy": copy, "endpoint": endpoint, "fate": "moved", "to": to.value()})
-        }
-        Fate::Discarded(cause) => {
-            json!(in alloc; {"cause": cause_word(cause), "copy": copy, "endpoint": endpoint, "fate": "discarded"})
-        }
-        Fate::Earlier => plain_copy(alloc, "earlier", copy, endpoint),
-    }
+    let mut map = Map::new(alloc);
+    put_whole(&mut map, alloc, "copy", told.copy.value())?;
+    put_text(&mut map, alloc, "endpoint", told.endpoint.as_str())?;
+    put_fate(&mut map, alloc, told.fate)?;
+    Ok(Value::Object(map))
 }
 
 fn copies_value(alloc: Global, copies: &[PublishedCopy]) -> Result<Value, AllocError>
@@ -64,8 +37,7 @@ fn copies_value(alloc: Global, copies: &[PublishedCopy]) -> Result<Value, AllocE
 {
     let mut values = Vec::new(alloc);
     for told in copies {
-        let copy = told.copy.value();
-        values.push(copy_value(alloc, told.fate, copy, told.endpoint.as_str())?)?;
+        values.push(told_value(alloc, told)?)?;
     }
     Ok(Value::Array(values))
 }
@@ -88,7 +60,7 @@ fn causes_value(alloc: Global, counts: &[CauseCount]) -> Result<Value, AllocErro
     let mut map = Map::new(alloc);
     for counted in counts {
         let word = cause_word(counted.cause);
-        serde_json::put(&mut map, alloc, word, Value::from(counted.count))?;
+        put_whole(&mut map, alloc, word, counted.count)?;
     }
     Ok(Value::Object(map))
 }
@@ -98,6 +70,39 @@ fn tally_value(alloc: Global, t: &Tally, unit: u64) -> Result<Value, AllocError>
 {
     let causes = causes_value(alloc, t.causes.as_slice())?;
     json!(in alloc; {"accepted": t.accepted, "causes": causes, "discarded": t.discarded, "made": t.made, "moved": t.moved, "ok": "tally", "spooled": t.spooled, "unit": unit, "used": t.used})
+}
+
+fn put_details(
+    map: &mut Members,
+    alloc: Global,
+    details: &Option<CopyDetails>,
+) -> Result<(), AllocError>
+    ensures { OnOk result (members_view map.new.entries ≡ with_details details.now (members_view map.old.entries)) }
+{
+    let Some(details) = details else {
+        return Ok(());
+    };
+    put_whole(map, alloc, "message", details.message.value())?;
+    put_whole(map, alloc, "endpoint", details.endpoint.value())?;
+    put_whole(map, alloc, "attempts", details.attempts)
+}
+
+fn copy_value(
+    alloc: Global,
+    copy: u64,
+    fate: Fate,
+    details: &Option<CopyDetails>,
+    unit: u64,
+) -> Result<Value, AllocError>
+    ensures { IfOk result (λ v. view v ≡ copy_data copy fate details.now unit) }
+{
+    let mut map = Map::new(alloc);
+    put_whole(&mut map, alloc, "copy", copy)?;
+    put_text(&mut map, alloc, "ok", "copy")?;
+    put_whole(&mut map, alloc, "unit", unit)?;
+    put_details(&mut map, alloc, details)?;
+    put_fate(&mut map, alloc, fate)?;
+    Ok(Value::Object(map))
 }
 
 /// A reply at a number of units.
@@ -111,6 +116,25 @@ pub fn reply_value(alloc: Global, reply: &Reply, unit: u64) -> Result<Value, All
         Reply::Publish { message, copies } => {
             publish_value(alloc, message.value(), copies.as_slice(), unit)
         }
+        Reply::Bind {
+            endpoint,
+            flow,
+            discarded,
+        } => { bind_value(alloc, endpoint.as_str(), flow.value(), *discarded, unit) }
+        Reply::Unbind {
+            flow,
+            closed,
+            returned,
+        } => { unbind_value(alloc, flow.value(), closed.as_slice(), *returned, unit) }
+        Reply::Pull { flow, deliveries } => {
+            pull_value(alloc, flow.value(), deliveries.as_slice(), unit)
+        }
+        Reply::Settle { copy, fate } => settle_value(alloc, copy.value(), *fate, unit),
         Reply::Tally(tally) => tally_value(alloc, tally, unit),
+        Reply::Copy {
+            copy,
+            fate,
+            details,
+        } => { copy_value(alloc, copy.value(), *fate, details, unit) }
     }
 }

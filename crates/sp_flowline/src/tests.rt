@@ -1,3 +1,6 @@
+mod flows;
+mod replies;
+
 use crate::line::line;
 use crate::read::{ReadError, read};
 use sp_base::refusal::Refusal;
@@ -7,7 +10,7 @@ use std::alloc::{AllocError, Global};
 use std::test::Fail;
 
 // What is wrong with a line: the number, or none where it is a request.
-fn fault(alloc: Global, bytes: &[u8]) -> Result<Option<u64>, AllocError> {
+pub fn fault(alloc: Global, bytes: &[u8]) -> Result<Option<u64>, AllocError> {
     match read(alloc, bytes) {
         Ok(_) => Ok(None),
         Err(

@@ -5,9 +5,15 @@ use Rattle.sp_message.specs.declared.message.Message.{Message}
 use Rattle.sp_message.specs.Size.{dest_bytes}
 use Rattle.sp_event.specs.declared.answer.Reply.{Reply}
 use Rattle.sp_event.specs.declared.request.Event.{Event}
-use Rattle.sp_event.specs.declared.request.Event.TheVariants.{Provision, Publish}
+use Rattle.sp_event.specs.declared.request.Event.TheVariants.{Provision, Publish, Bind, Unbind, Pull, Settle}
+use Rattle.sp_event.specs.declared.request.Outcome as settling
+use Rattle.sp_copies.specs.declared.made.MadeCopy.{MadeCopy}
+use Rattle.sp_ledger.specs.Bind.{bind_checks, bound, bind_to}
+use Rattle.sp_ledger.specs.Unbind.{unbind_checks, unbound, unbind_by}
+use Rattle.sp_ledger.specs.Pull.{pull_checks, pulled, handed_out, pull_of, pull_by}
+use Rattle.sp_ledger.specs.Settle.{settle_checks, settled, settle_by}
 use Rattle.sp_ledger.specs.Checks.{Check, first_refusal}
-use Rattle.sp_ledger.specs.Ledger.{Ledger, Endpoint, named}
+use Rattle.sp_ledger.specs.Ledger.{Ledger, Endpoint, Flow, named, flow_of}
 use Rattle.sp_ledger.specs.Outcome.{accepted, Stepped, decided}
 use Rattle.sp_ledger.specs.Provision.{provision_checks, provisioned}
 use Rattle.sp_ledger.specs.Publish.{publish_checks, published, publish_to}
@@ -36,16 +42,50 @@ where_accepted P None done holds M told e =
     let replies : done.reply ∷ [] ≡ told = cc in
     subst (λ m. P m told) ledger (subst (λ t. P done.ledger t) replies (holds refl))
 
-published_where : (P : Ledger → List Reply → Type 0) (L : Ledger) (moment : ℕ) (m : Message) (found : Option Endpoint) → ((queue : Endpoint) → found ≡ Some queue → first_refusal (publish_checks L m queue) ≡ None → P (published moment m queue L).ledger ((published moment m queue L).reply ∷ [])) → (M : Ledger) (told : List Reply) → publish_to moment m L found ≡ accepted M told → P M told
-published_where P L moment m None holds M told e = absurd (cc)
-published_where P L moment m (Some queue) holds M told e = where_accepted P (first_refusal (publish_checks L m queue)) (published moment m queue L) (holds queue refl) M told e
+-- what holds of the ledger and the reply of each event whose checks pass
+pub record AfterEach (P : Ledger → List Reply → Type 0) (L : Ledger) (moment : ℕ) : Type 0 where
+  pub comes : (name : List ℕ) → first_refusal (provision_checks L name) ≡ None → P (provisioned moment name L).ledger ((provisioned moment name L).reply ∷ [])
+  pub goes : (m : Message) (queue : Endpoint) → named (dest_bytes m.dest) L.endpoints ≡ Some queue → first_refusal (publish_checks L m queue) ≡ None → P (published moment m queue L).ledger ((published moment m queue L).reply ∷ [])
+  pub binds : (caller name : List ℕ) (endpoint : Endpoint) → named name L.endpoints ≡ Some endpoint → first_refusal (bind_checks L) ≡ None → P (bound moment caller endpoint L).ledger ((bound moment caller endpoint L).reply ∷ [])
+  pub unbinds : (caller : List ℕ) (flow : ℕ) (f : Flow) → flow_of L.flows caller flow ≡ Some f → first_refusal (unbind_checks L) ≡ None → P (unbound moment flow L).ledger ((unbound moment flow L).reply ∷ [])
+  pub pulls : (caller : List ℕ) (flow count : ℕ) (f : Flow) → flow_of L.flows caller flow ≡ Some f → first_refusal (pull_checks L) ≡ None → P (handed_out moment flow (pulled L f count moment) L).ledger ((handed_out moment flow (pulled L f count moment) L).reply ∷ [])
+  pub settles : (caller : List ℕ) (flow copy : ℕ) (outcome : settling.Outcome) (f : Flow) → flow_of L.flows caller flow ≡ Some f → first_refusal (settle_checks L flow copy) ≡ None → P (settled moment outcome copy L).ledger ((settled moment outcome copy L).reply ∷ [])
 
--- what each event leaves where its checks pass is what every accepted unit leaves
-pub each_event : (P : Ledger → List Reply → Type 0) (L : Ledger) (moment : ℕ) →
-    ((name : List ℕ) → first_refusal (provision_checks L name) ≡ None → P (provisioned moment name L).ledger ((provisioned moment name L).reply ∷ [])) →
-    ((m : Message) (queue : Endpoint) → named (dest_bytes m.dest) L.endpoints ≡ Some queue → first_refusal (publish_checks L m queue) ≡ None → P (published moment m queue L).ledger ((published moment m queue L).reply ∷ [])) →
-    (caller : List ℕ) (unit : List Event) (M : Ledger) (told : List Reply) → unit_step moment caller unit L ≡ accepted M told → P M told
-each_event P L moment comes goes caller [] M told e = absurd (cc)
-each_event P L moment comes goes caller (Provision name ∷ []) M told e = where_accepted P (first_refusal (provision_checks L name)) (provisioned moment name L) (comes name) M told e
-each_event P L moment comes goes caller (Publish m ∷ []) M told e = published_where P L moment m (named (dest_bytes m.dest) L.endpoints) (goes m) M told e
-each_event P L moment comes goes caller (a ∷ b ∷ rest) M told e = absurd (cc)
+module _ (P : Ledger → List Reply → Type 0) (L : Ledger) (moment : ℕ) (after : AfterEach P L moment) (M : Ledger) (told : List Reply) where
+  published_where : (m : Message) (found : Option Endpoint) → named (dest_bytes m.dest) L.endpoints ≡ found → publish_to moment m L found ≡ accepted M told → P M told
+  published_where m None is e = absurd (cc)
+  published_where m (Some queue) is e = where_accepted P (first_refusal (publish_checks L m queue)) (published moment m queue L) (after.goes m queue is) M told e
+
+  bound_where : (caller name : List ℕ) (found : Option Endpoint) → named name L.endpoints ≡ found → bind_to moment caller name L found ≡ accepted M told → P M told
+  bound_where caller name None is e = absurd (cc)
+  bound_where caller name (Some endpoint) is e = where_accepted P (first_refusal (bind_checks L)) (bound moment caller endpoint L) (after.binds caller name endpoint is) M told e
+
+  unbound_where : (caller : List ℕ) (flow : ℕ) (found : Option Flow) → flow_of L.flows caller flow ≡ found → unbind_by moment flow L found ≡ accepted M told → P M told
+  unbound_where caller flow None is e = absurd (cc)
+  unbound_where caller flow (Some f) is e = where_accepted P (first_refusal (unbind_checks L)) (unbound moment flow L) (after.unbinds caller flow f is) M told e
+
+  pulled_where : (caller : List ℕ) (flow count : ℕ) (found : Option Flow) → flow_of L.flows caller flow ≡ found → pull_by moment flow count L found ≡ accepted M told → P M told
+  pulled_where caller flow count None is e = absurd (cc)
+  pulled_where caller flow count (Some f) is e = one (pulled L f count moment) refl e
+    where
+      one : (copies : List MadeCopy) → pulled L f count moment ≡ copies → pull_of moment flow L copies ≡ accepted M told → P M told
+      one [] same d = absurd (cc)
+      one (c ∷ cs) same d =
+          where_accepted P (first_refusal (pull_checks L)) (handed_out moment flow (c ∷ cs) L)
+          (λ passed. subst (λ copies. P (handed_out moment flow copies L).ledger ((handed_out moment flow copies L).reply ∷ [])) same (after.pulls caller flow count f is passed))
+          M told d
+
+  settled_where : (caller : List ℕ) (flow copy : ℕ) (outcome : settling.Outcome) (found : Option Flow) → flow_of L.flows caller flow ≡ found → settle_by moment flow copy outcome L found ≡ accepted M told → P M told
+  settled_where caller flow copy outcome None is e = absurd (cc)
+  settled_where caller flow copy outcome (Some f) is e = where_accepted P (first_refusal (settle_checks L flow copy)) (settled moment outcome copy L) (after.settles caller flow copy outcome f is) M told e
+
+  -- what each event leaves where its checks pass is what every accepted unit leaves
+  pub each_event : (caller : List ℕ) (unit : List Event) → unit_step moment caller unit L ≡ accepted M told → P M told
+  each_event caller [] e = absurd (cc)
+  each_event caller (Provision name ∷ []) e = where_accepted P (first_refusal (provision_checks L name)) (provisioned moment name L) (after.comes name) M told e
+  each_event caller (Publish m ∷ []) e = published_where m (named (dest_bytes m.dest) L.endpoints) refl e
+  each_event caller (Bind name ∷ []) e = bound_where caller name (named name L.endpoints) refl e
+  each_event caller (Unbind flow ∷ []) e = unbound_where caller flow (flow_of L.flows caller flow) refl e
+  each_event caller (Pull flow count ∷ []) e = pulled_where caller flow count (flow_of L.flows caller flow) refl e
+  each_event caller (Settle flow copy outcome ∷ []) e = settled_where caller flow copy outcome (flow_of L.flows caller flow) refl e
+  each_event caller (a ∷ b ∷ rest) e = absurd (cc)

@@ -1,5 +1,11 @@
+pub mod Closings
 pub mod Decisions
+pub mod Deliveries
 pub mod Fates
+pub mod GivenBack
 pub mod Growth
+pub mod HandedOut
+pub mod Listed
+pub mod OneKept
 pub mod Soundness
 pub mod Tallies

@@ -11,4 +11,9 @@ IsBalanced t = t.made ≡ t.spooled + t.accepted + t.moved + t.discarded
 abbrev pub TellsBalanced : Reply → Type 0
 TellsBalanced (replies.Provision endpoint number) = ⊤
 TellsBalanced (replies.Publish message copies) = ⊤
+TellsBalanced (replies.Bind endpoint flow discarded) = ⊤
+TellsBalanced (replies.Unbind flow closed returned) = ⊤
+TellsBalanced (replies.Pull flow deliveries) = ⊤
+TellsBalanced (replies.Settle copy fate) = ⊤
 TellsBalanced (replies.Tally tally) = IsBalanced tally
+TellsBalanced (replies.Copy copy fate details) = ⊤

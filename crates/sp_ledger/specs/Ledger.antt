@@ -1,5 +1,5 @@
 -- The ledger: everything that was ever published, made and closed, and who may take it.
-use Rattle.std.specs.Prelude.{ℕ, Bool, false, List, [], find, Option, option_map, bytes_eq}
+use Rattle.std.specs.Prelude.{ℕ, ◌==◌, ◌&&◌, Bool, false, List, [], find, Option, option_map, bytes_eq}
 use Rattle.sp_message.specs.declared.message.Message.{Message}
 use Rattle.sp_copies.specs.History.{History, empty_history, used_bytes}
 
@@ -14,12 +14,11 @@ pub record Published : Type 0 where
   pub message : Message
   pub moment : ℕ
 
--- a bound flow of a caller
+-- a flow that a caller has bound to an endpoint
 pub record Flow : Type 0 where
   pub number : ℕ
   pub endpoint : ℕ
   pub caller : List ℕ
-  pub selector : Option (List ℕ)
 
 -- the replay log: whether it is on, its size and the quota of all endpoints in MB, and its messages
 pub record Log : Type 0 where
@@ -74,6 +73,14 @@ empty_ledger next copy = record {
 -- the endpoint of a name, where it is there
 abbrev pub named : List ℕ → List Endpoint → Option Endpoint
 named name endpoints = find (λ e. bytes_eq e.name name) endpoints
+
+-- the flow of a number, where it is bound and the caller's
+abbrev pub flow_of : List Flow → List ℕ → ℕ → Option Flow
+flow_of flows caller flow = find (λ f. (f.number == flow) && bytes_eq f.caller caller) flows
+
+-- the message of a number, where it was published
+abbrev pub message_of : List Published → ℕ → Option Published
+message_of messages number = find (λ m. m.number == number) messages
 
 -- the bytes that the copies of a name's endpoint use, where it is there
 abbrev pub used_of : Ledger → List ℕ → Option ℕ

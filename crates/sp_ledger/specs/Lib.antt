@@ -1,10 +1,15 @@
 pub mod Answer
 pub mod Balance
+pub mod Bind
 pub mod Checks
 pub mod Extends
 pub mod Ledger
+pub mod One
 pub mod Outcome
 pub mod Provision
 pub mod Publish
+pub mod Pull
+pub mod Settle
 pub mod Sound
 pub mod Step
+pub mod Unbind

@@ -1,16 +1,24 @@
 -- What each event does to the ledger, and what it is answered.
 use Rattle.std.specs.Prelude.{ℕ, List, [], ◌∷◌}
 use Rattle.sp_event.specs.declared.request.Event.{Event}
-use Rattle.sp_event.specs.declared.request.Event.TheVariants.{Provision, Publish}
+use Rattle.sp_event.specs.declared.request.Event.TheVariants.{Provision, Publish, Bind, Unbind, Pull, Settle}
+use Rattle.sp_ledger.specs.Bind.{bind_step}
 use Rattle.sp_ledger.specs.Ledger.{Ledger}
 use Rattle.sp_ledger.specs.Outcome.{Outcome, idle}
 use Rattle.sp_ledger.specs.Provision.{provision_step}
 use Rattle.sp_ledger.specs.Publish.{publish_step}
+use Rattle.sp_ledger.specs.Pull.{pull_step}
+use Rattle.sp_ledger.specs.Settle.{settle_step}
+use Rattle.sp_ledger.specs.Unbind.{unbind_step}
 
 -- what one event of a caller comes to, at a moment
 abbrev pub step : ℕ → List ℕ → Event → Ledger → Outcome
 step moment caller (Provision name) L = provision_step moment name L
 step moment caller (Publish m) L = publish_step moment m L
+step moment caller (Bind name) L = bind_step moment caller name L
+step moment caller (Unbind flow) L = unbind_step moment caller flow L
+step moment caller (Pull flow count) L = pull_step moment caller flow count L
+step moment caller (Settle flow copy outcome) L = settle_step moment caller flow copy outcome L
 
 -- the same for a unit, which has one event
 abbrev pub unit_step : ℕ → List ℕ → List Event → Ledger → Outcome

@@ -1,4 +1,4 @@
-ghost use Rattle.std.specs.Prelude.{◌≡◌, ℕ, List, All, true};
+ghost use Rattle.std.specs.Prelude.{◌≡◌, ℕ, List, All, true, map};
 ghost use Rattle.sp_copies.specs.History.{History, is_made};
 ghost use Rattle.sp_copies.specs.Sound.{IsSoundHistory, HasOneFate};
 ghost use Rattle.sp_event.specs.declared.answer.Reply.{Reply};
@@ -6,29 +6,38 @@ ghost use Rattle.sp_event.specs.declared.request.Event.{Event};
 ghost use Rattle.sp_event.specs.declared.request.Query.{Query};
 ghost use Rattle.sp_ledger.specs.Answer.{answer, gave};
 ghost use Rattle.sp_ledger.specs.Balance.{TellsBalanced};
-ghost use Rattle.sp_ledger.specs.Extends.{Extends, TellsMade};
-ghost use Rattle.sp_ledger.specs.Ledger.{Ledger};
-ghost use Rattle.sp_ledger.specs.Outcome.{accepted};
+ghost use Rattle.sp_ledger.specs.Extends.{Extends, IsTold};
+ghost use Rattle.sp_ledger.specs.Ledger.{Ledger, Flow};
+ghost use Rattle.sp_ledger.specs.Outcome.{accepted, idle};
+ghost use Rattle.sp_ledger.specs.Pull.{deliveries, pulled};
 ghost use Rattle.sp_ledger.specs.Sound.{IsSound};
 ghost use Rattle.sp_ledger.specs.Step.{unit_step};
 
-/// Every accepted unit keeps the ledger sound.
+/// Every accepted unit keeps the ledger sound: each copy has one fate, and is held by at most
+/// one flow, which is bound to its endpoint.
 pub fn each_unit_keeps_the_ledger_sound()
     ensures { (L : Ledger) → IsSound L → (moment : ℕ) (caller : List ℕ) (unit : List Event) (M : Ledger) (told : List Reply) →
         unit_step moment caller unit L ≡ accepted M told → IsSound M }
 {}
 
-/// Every accepted unit leaves all copies and closings, and tells only of copies that were made.
+/// Every accepted unit leaves all copies and closings, and what it tells of copies holds.
 pub fn each_unit_extends_the_ledger()
     ensures extends { (L : Ledger) (moment : ℕ) (caller : List ℕ) (unit : List Event) (M : Ledger) (told : List Reply) →
         unit_step moment caller unit L ≡ accepted M told → Extends L M }
-    ensures tells { (L : Ledger) (moment : ℕ) (caller : List ℕ) (unit : List Event) (M : Ledger) (told : List Reply) →
-        unit_step moment caller unit L ≡ accepted M told → All (TellsMade M) told }
+    ensures tells { (L : Ledger) → IsSound L → (moment : ℕ) (caller : List ℕ) (unit : List Event) (M : Ledger) (told : List Reply) →
+        unit_step moment caller unit L ≡ accepted M told → All (IsTold M.copies) told }
 {}
 
-/// A copy that was made stays made, and what a reply tells of stays told.
+/// What an idle unit tells of copies holds, and it tells no tally that doesn't add up.
+pub fn each_idle_unit_tells_what_holds()
+    ensures { (L : Ledger) (moment : ℕ) (told : List Reply) (caller : List ℕ) (unit : List Event) →
+        unit_step moment caller unit L ≡ idle told → All (λ r. IsTold L.copies r × TellsBalanced r) told }
+{}
+
+/// A copy that was made stays made, a fate that was told stays, unless it was spooled, and so
+/// what a reply tells of copies stays true.
 pub fn what_was_told_stays()
-    ensures { (L M : Ledger) → Extends L M → (r : Reply) → TellsMade L r → TellsMade M r }
+    ensures { (L M : Ledger) → Extends L M → (r : Reply) → IsTold L.copies r → IsTold M.copies r }
 {}
 
 /// A copy that was made stands once among all copies, and is spooled or has its one closing.
@@ -40,4 +49,16 @@ pub fn each_copy_has_one_fate()
 pub fn each_tally_is_balanced()
     ensures { (moment : ℕ) (caller : List ℕ) (query : Query) (L : Ledger) (r : Reply) →
         answer moment caller query L ≡ gave r → TellsBalanced r }
+{}
+
+/// What a query is told of copies holds.
+pub fn each_answer_tells_what_holds()
+    ensures { (moment : ℕ) (caller : List ℕ) (query : Query) (L : Ledger) (r : Reply) →
+        answer moment caller query L ≡ gave r → IsTold L.copies r }
+{}
+
+/// A pull delivers each copy that it hands out, and no other.
+pub fn each_copy_handed_out_is_delivered()
+    ensures { (L : Ledger) → IsSound L → (f : Flow) (count moment : ℕ) →
+        map (λ d. d.copy) (deliveries L (pulled L f count moment)) ≡ map (λ c. c.number) (pulled L f count moment) }
 {}

@@ -18,7 +18,7 @@ use Rattle.sp_tape.specs.Reading.{Reads, Left, Comes, longest_read}
 use Rattle.sp_tape.specs.Run.{Turn, start, IsRun, ledger_after, tape_of, line_at, output_of}
 use Rattle.sp_tape.specs.Runs.{Serves, Runs, IsBad, longest_tape}
 use Rattle.sp_tape.proofs.Fronts.{refused_is_none}
-use Rattle.sp_tape.proofs.Holds.{run_holds}
+use Rattle.sp_tape.proofs.Holds.{each_sound, run_holds}
 use Rattle.sp_tape.proofs.Known.{reads_nothing, reads_both}
 use Rattle.sp_tape.proofs.Pieces.{writes_nothing, writes_both}
 
@@ -94,6 +94,7 @@ module _ (lo ll ln wo wl wn : Option (List ℕ)) (waiting left : List ℕ) (core
   ends_done room (reads, end) = record {
     turns = s.turns;
     run = s.run;
+    sound = each_sound start s.begun s.turns s.run;
     holds = run_holds start s.begun s.turns s.run;
     rest = [];
     read = subst (λ zs. Left lo zs) (append_assoc (tape_of s.turns) [] (unwrap_or ln []) ∙ ap (λ zs. tape_of s.turns ++ zs) (left_end ln end)) (tape_left lo ln (tape_of s.turns ++ []) (reads_more lo ll ln (tape_of s.turns) waiting [] s.read reads));
@@ -106,6 +107,7 @@ module _ (lo ll ln wo wl wn : Option (List ℕ)) (waiting left : List ℕ) (core
   ends_bad (all, reads, refused, no_further) = record {
     turns = s.turns;
     run = s.run;
+    sound = each_sound start s.begun s.turns s.run;
     holds = run_holds start s.begun s.turns s.run;
     rest = all ++ unwrap_or ln [];
     read = subst (λ zs. Left lo zs) (append_assoc (tape_of s.turns) all (unwrap_or ln [])) (tape_left lo ln (tape_of s.turns ++ all) (reads_more lo ll ln (tape_of s.turns) waiting all s.read reads));
@@ -129,10 +131,10 @@ module _ (lo ll ln wo wl wn : Option (List ℕ)) (waiting left : List ℕ) (core
   read_so_far = subst (λ zs. Left lo zs) (append_assoc (tape_of s.turns) waiting (unwrap_or ll [])) (tape_left lo ll (tape_of s.turns ++ waiting) s.read)
 
   pub ends_read_fault : Runs lo ln wo wl ReadFault
-  ends_read_fault = record { turns = s.turns; run = s.run; holds = run_holds start s.begun s.turns s.run; rest = waiting ++ unwrap_or ll []; read = read_so_far; fits = fits_whole; ends = tt; wrote = s.wrote }
+  ends_read_fault = record { turns = s.turns; run = s.run; sound = each_sound start s.begun s.turns s.run; holds = run_holds start s.begun s.turns s.run; rest = waiting ++ unwrap_or ll []; read = read_so_far; fits = fits_whole; ends = tt; wrote = s.wrote }
 
   pub ends_memory : Runs lo ln wo wl Memory
-  ends_memory = record { turns = s.turns; run = s.run; holds = run_holds start s.begun s.turns s.run; rest = waiting ++ unwrap_or ll []; read = read_so_far; fits = fits_whole; ends = tt; wrote = s.wrote }
+  ends_memory = record { turns = s.turns; run = s.run; sound = each_sound start s.begun s.turns s.run; holds = run_holds start s.begun s.turns s.run; rest = waiting ++ unwrap_or ll []; read = read_so_far; fits = fits_whole; ends = tt; wrote = s.wrote }
 
   -- the tape up to the end of the entry that came
   with_entry : (room : ℕ) (found : Found) (answered : Answered) (M : Ledger) → Comes room ll ln waiting left (next.Found found) → Consumes lo ln (tape_of (s.turns ++ turn_of found.entry answered M ∷ []) ++ left)
@@ -169,6 +171,7 @@ module _ (lo ll ln wo wl wn : Option (List ℕ)) (waiting left : List ℕ) (core
       record {
         turns = s.turns ++ t ∷ [];
         run = run;
+        sound = each_sound start s.begun (s.turns ++ t ∷ []) run;
         holds = run_holds start s.begun (s.turns ++ t ∷ []) run;
         rest = left ++ unwrap_or ln [];
         read = subst (λ zs. Left lo zs) (append_assoc (tape_of (s.turns ++ t ∷ [])) left (unwrap_or ln [])) (tape_left lo ln (tape_of (s.turns ++ t ∷ []) ++ left) (with_entry (longest_tape - at) found answered M came));
@@ -187,14 +190,14 @@ module _ (lo ll ln wo wl wn : Option (List ℕ)) (waiting left : List ℕ) (core
 
 -- a run that didn't begin
 pub ends_usage : (left written : Option (List ℕ)) → Runs left left written written Usage
-ends_usage left written = record { turns = []; run = tt; holds = λ k d h. absurd (omega arith); rest = unwrap_or left []; read = kept left; fits = omega arith; ends = refl; wrote = writes_nothing written }
+ends_usage left written = record { turns = []; run = tt; sound = λ k d h. absurd (omega arith); holds = λ k d h. absurd (omega arith); rest = unwrap_or left []; read = kept left; fits = omega arith; ends = refl; wrote = writes_nothing written }
   where
     kept : (l : Option (List ℕ)) → Left l ([] ++ unwrap_or l [])
     kept None = tt
     kept (Some bytes) = refl
 
 pub ends_at_once : (left written : Option (List ℕ)) → Runs left left written written Memory
-ends_at_once left written = record { turns = []; run = tt; holds = λ k d h. absurd (omega arith); rest = unwrap_or left []; read = kept left; fits = omega arith; ends = tt; wrote = writes_nothing written }
+ends_at_once left written = record { turns = []; run = tt; sound = λ k d h. absurd (omega arith); holds = λ k d h. absurd (omega arith); rest = unwrap_or left []; read = kept left; fits = omega arith; ends = tt; wrote = writes_nothing written }
   where
     kept : (l : Option (List ℕ)) → Left l ([] ++ unwrap_or l [])
     kept None = tt

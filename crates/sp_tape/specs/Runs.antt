@@ -4,6 +4,7 @@ use Rattle.std.specs.declared.alloc.Global.{Global}
 use Rattle.std.specs.Io.KnownBytes.{Appends}
 use Rattle.sp_event.specs.declared.answer.Answered.{Answered}
 use Rattle.sp_ledger.specs.Ledger.{Ledger}
+use Rattle.sp_ledger.specs.Sound.{IsSound}
 use Rattle.sp_core.specs.State.{CoreState}
 use Rattle.sp_core.specs.Stands.{Stands}
 use Rattle.sp_tape.specs.declared.entry.Entry.{Entry}
@@ -73,7 +74,10 @@ pub record Runs (tape left written_old written_new : Option (List ℕ)) (status 
   -- the entries that were answered, one after another, each on the ledger that the one before left
   pub turns : List Turn
   pub run : IsRun start turns
-  -- each copy that an answer told of has one fate in the ledger at the end, and each tally adds up
+  -- in the ledger after each entry every copy has one fate, and what is held is spooled and held by one bound flow
+  pub sound : All (λ t. IsSound t.after) turns
+  -- each copy that an answer told of has one fate in the ledger at the end, what was told of it holds there,
+  -- and each tally adds up
   pub holds : All (λ t. AnswerHolds (ledger_after start turns) t.answered) turns
   -- the tape is those entries and then the rest, where the source tells it
   pub rest : List ℕ

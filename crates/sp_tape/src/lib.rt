@@ -2,6 +2,8 @@
 #![tactic(auto)]
 
 pub mod entry;
+#[cfg(test)]
+mod flow_tests;
 mod head;
 mod numeral;
 pub mod parse;

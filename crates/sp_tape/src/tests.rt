@@ -21,13 +21,13 @@ const OUTPUT: &[u8] =
 const ENTRIES: [usize; 4] = [0, 50, 113, 159];
 
 #[derive(Drop)]
-struct Ended {
-    status: Status,
-    output: Vec<u8>,
+pub struct Ended {
+    pub status: Status,
+    pub output: Vec<u8>,
 }
 
 // Runs words over a tape that comes in pieces, into a sink that takes pieces.
-fn ran(
+pub fn ran(
     alloc: Global,
     word: &str,
     tape: &[u8],

@@ -1,20 +1,29 @@
 // Units are carried out.
-ghost use Rattle.std.specs.Prelude.{◌≡◌, ◌≤◌, ◌<◌, ◌+◌, ℕ, ◌^◌, length};
-ghost use Rattle.sp_copies.specs.History.{used_bytes};
+ghost use Rattle.std.specs.Prelude.{◌≡◌, ◌≤◌, ◌<◌, ◌+◌, ℕ, ◌^◌, length, All, AllPairs, true};
+ghost use Rattle.sp_copies.specs.History.{is_free, is_held, is_spooled, used_bytes};
+ghost use Rattle.sp_copies.specs.Kept.{Records};
 ghost use Rattle.sp_core.specs.Decided.{IsPrepared, CarriesOut};
-ghost use Rattle.sp_core.specs.Plan.{unit_of, carried_out, HasRoom, Fits};
+ghost use Rattle.sp_core.specs.Plan.{unit_of, bound_row, carried_out, handed_over, HasRoom, Fits};
 ghost use Rattle.sp_core.specs.Stands.{Stands};
 ghost use Rattle.sp_ledger.specs.Ledger.{Ledger};
+ghost use Rattle.sp_ledger.specs.Pull.{all_handed_out};
+ghost use Rattle.sp_ledger.specs.Settle.{settled};
 ghost use Rattle.sp_ledger.specs.Sound.{IsSound};
 ghost use Rattle.sp_ledger.specs.Step.{unit_step};
+ghost use Rattle.sp_ledger.specs.Unbind.{all_given_back};
 
 use crate::plan::Plan;
 use crate::ready::{Parts, Ready};
-use crate::rows::{Endpoint, Published};
+use crate::rows::{Endpoint, Flow, Published};
 use crate::state::Core;
+use sp_base::items::Items;
 use sp_base::moment::Moment;
-use sp_copies::made::NewCopy;
+use sp_base::number::{CopyNo, FlowNo};
+use sp_copies::closed::Closing;
+use sp_copies::copies::Copies;
+use sp_copies::made::{MadeCopy, NewCopy};
 use sp_event::answer::Reply;
+use sp_event::request::Outcome;
 
 impl Core {
     /// Carries out what was decided, and takes no memory. For every ledger that the core stood
@@ -43,6 +52,19 @@ impl Core {
         match plan {
             Plan::Provision { row } => self.add_endpoint(moment, row),
             Plan::Publish { row, copy } => self.add_message(moment, row, copy),
+            Plan::Bind { endpoint: _, row } => self.add_flow(moment, row),
+            Plan::Unbind { flow, copies } => self.take_flow(moment, flow, copies),
+            Plan::Pull {
+                flow,
+                count: _,
+                copies,
+            } => self.hand_out(moment, flow, copies),
+            Plan::IdlePull { .. } => {}
+            Plan::Settle {
+                flow: _,
+                copy,
+                outcome,
+            } => self.settle(moment, copy, outcome),
         }
     }
 
@@ -68,5 +90,83 @@ impl Core {
         self.next.message += 1;
         self.next.unit += 1;
         self.clock = self.clock.max(moment);
+    }
+
+    fn add_flow(&mut self, moment: Moment, row: Flow)
+        requires room { 0 < self.old.flow_room }
+        requires sound { (L : Ledger) → Stands self.old L → IsSound (bound_row moment row L) }
+        ensures { (L : Ledger) → Stands self.old L → Stands self.new (bound_row moment row L) }
+    {
+        self.flows.add(row);
+        self.next.flow += 1;
+        self.next.unit += 1;
+        self.clock = self.clock.max(moment);
+    }
+
+    fn take_flow(&mut self, moment: Moment, flow: FlowNo, copies: Items<CopyNo>)
+        requires held { (L : Ledger) → Stands self.old L → All (λ copy. is_held L.copies.held copy ≡ true) copies }
+        requires rise { (L : Ledger) → Stands self.old L → AllPairs (λ b c. b < c) copies }
+        requires sound { (L : Ledger) → Stands self.old L → IsSound (carried_out moment (Plan.Unbind flow copies) L) }
+        ensures { (L : Ledger) → Stands self.old L → Stands self.new (carried_out moment (Plan.Unbind flow copies) L) }
+    {
+        give_back_all(&mut self.copies, copies.as_slice());
+        self.flows.remove(flow);
+        self.next.unit += 1;
+        self.clock = self.clock.max(moment);
+    }
+
+    fn hand_out(&mut self, moment: Moment, flow: FlowNo, copies: Items<MadeCopy>)
+        requires free { (L : Ledger) → Stands self.old L → All (λ c. is_free L.copies c.number ≡ true) copies }
+        requires rise { (L : Ledger) → Stands self.old L → AllPairs (λ b c. b.number < c.number) copies }
+        requires sound { (L : Ledger) → Stands self.old L → IsSound (handed_over moment flow copies L) }
+        ensures { (L : Ledger) → Stands self.old L → Stands self.new (handed_over moment flow copies L) }
+    {
+        hold_all(&mut self.copies, flow, copies.as_slice());
+        self.next.unit += 1;
+        self.clock = self.clock.max(moment);
+    }
+
+    fn settle(&mut self, moment: Moment, copy: CopyNo, outcome: Outcome)
+        requires spooled { (L : Ledger) → Stands self.old L → is_spooled L.copies copy ≡ true }
+        requires sound { (L : Ledger) → Stands self.old L → IsSound (settled moment outcome copy L).ledger }
+        ensures { (L : Ledger) → Stands self.old L → Stands self.new (settled moment outcome copy L).ledger }
+    {
+        match outcome {
+            Outcome::Accepted => self.accept(moment, copy),
+        }
+    }
+
+    fn accept(&mut self, moment: Moment, copy: CopyNo)
+        requires spooled { (L : Ledger) → Stands self.old L → is_spooled L.copies copy ≡ true }
+        requires sound { (L : Ledger) → Stands self.old L → IsSound (settled moment Outcome.Accepted copy L).ledger }
+        ensures { (L : Ledger) → Stands self.old L → Stands self.new (settled moment Outcome.Accepted copy L).ledger }
+    {
+        self.clock = self.clock.max(moment);
+        self.copies.close(copy, Closing::Accepted, self.clock);
+        self.next.unit += 1;
+    }
+}
+
+// Each copy is given back, in order.
+fn give_back_all(copies: &mut Copies, given: &[CopyNo])
+    requires known { Records copies.old copies.old.history }
+    requires held { All (λ copy. is_held copies.old.history.held copy ≡ true) given.now }
+    requires rise { AllPairs (λ b c. b < c) given.now }
+    ensures { Records copies.new (all_given_back given.now copies.old.history) }
+{
+    for copy in given {
+        copies.give_back(*copy);
+    }
+}
+
+// Each copy is handed out to the flow, in order.
+fn hold_all(copies: &mut Copies, flow: FlowNo, handed: &[MadeCopy])
+    requires known { Records copies.old copies.old.history }
+    requires free { All (λ c. is_free copies.old.history c.number ≡ true) handed.now }
+    requires rise { AllPairs (λ b c. b.number < c.number) handed.now }
+    ensures { Records copies.new (all_handed_out flow handed.now copies.old.history) }
+{
+    for copy in handed {
+        copies.hold(copy.number, flow);
     }
 }

@@ -53,7 +53,7 @@ impl Core {
             (L : Ledger) → Stands self.old L → unit_step now from.now (Event.Publish message.now ∷ []) L ≡ refused refusal)) }
     {
         let Dest::Queue(name) = &message.dest;
-        let Some(queue) = self.queue_of(alloc, name)? else {
+        let Some(queue) = self.endpoint_of(alloc, name)? else {
             let name = name.text(alloc)?;
             return Err(PrepareError::Refused {
                 index: 0,
@@ -64,19 +64,6 @@ impl Core {
             return Err(PrepareError::Refused { index: 0, refusal });
         }
         Ok(self.ready_publish(alloc, now, from, message, queue)?)
-    }
-
-    // The queue of a name.
-    fn queue_of(&self, alloc: Global, name: &Name) -> Result<Option<Endpoint>, AllocError>
-        ensures { IfOk result (λ queue. (L : Ledger) → Stands self.now L → option_map endpoint_row queue ≡ named name.now L.endpoints) }
-    {
-        match self.find(name) {
-            None => Ok(None),
-            Some(queue) => Ok(Some(Endpoint {
-                number: queue.number,
-                name: queue.name.copy(alloc)?,
-            })),
-        }
     }
 
     fn publish_refusal(
@@ -173,13 +160,6 @@ impl Core {
         ensures { (L : Ledger) → Stands self.now L → result ≡ L.copies.next }
     {
         self.copies.next()
-    }
-
-    // The later of the ledger's moment and another.
-    fn later(&self, moment: Moment) -> Moment
-        ensures { (L : Ledger) → Stands self.now L → result ≡ max L.now moment }
-    {
-        self.clock.max(moment)
     }
 
     fn reserve_publish(&mut self) -> Result<(), AllocError>

@@ -2,16 +2,18 @@
 ghost use Rattle.std.specs.Prelude.{◌≡◌, ℕ, IfOk, IfErr, Some};
 ghost use Rattle.sp_core.specs.Errors.{OnUnanswered};
 ghost use Rattle.sp_core.specs.Stands.{Stands};
-ghost use Rattle.sp_ledger.specs.Answer.{answer, gave, unanswered, tally_in};
+ghost use Rattle.sp_copies.specs.History.{fate_of};
+ghost use Rattle.sp_ledger.specs.Answer.{answer, copy_answer, details_of, gave, told_details, unanswered, tally_in};
 ghost use Rattle.sp_ledger.specs.Ledger.{Ledger};
 
 use crate::errors::QueryError;
 use crate::state::Core;
 use sp_base::moment::Moment;
 use sp_base::name::Name;
-use sp_base::number::EndpointNo;
+use sp_base::number::{CopyNo, EndpointNo};
 use sp_base::refusal::Refusal;
-use sp_event::answer::{Reply, Tally};
+use sp_copies::closed::Fate;
+use sp_event::answer::{CopyDetails, Reply, Tally};
 use sp_event::request::Query;
 use std::alloc::{AllocError, Global};
 
@@ -31,6 +33,7 @@ impl Core {
     {
         match q {
             Query::Tally { endpoint } => self.tally_of(alloc, now, from, endpoint),
+            Query::Copy { copy } => Ok(self.copy_report(*copy)),
         }
     }
 
@@ -89,5 +92,45 @@ impl Core {
             spooled: self.copies.count_spooled(endpoint),
             used,
         })
+    }
+
+    fn copy_report(&self, copy: CopyNo) -> Reply
+        ensures { (L : Ledger) → Stands self.now L → copy_answer L.copies copy ≡ gave result }
+    {
+        let details = told_details(self.fate(copy), self.details(copy));
+        Reply::Copy {
+            copy,
+            fate: self.fate(copy),
+            details,
+        }
+    }
+
+    fn fate(&self, copy: CopyNo) -> Fate
+        ensures { (L : Ledger) → Stands self.now L → result ≡ fate_of L.copies copy }
+    {
+        self.copies.fate(copy)
+    }
+
+    fn details(&self, copy: CopyNo) -> Option<CopyDetails>
+        ensures { (L : Ledger) → Stands self.now L → result ≡ details_of L.copies copy }
+    {
+        match &self.copies.copy(copy) {
+            None => None,
+            Some(made) => Some(CopyDetails {
+                endpoint: made.endpoint,
+                message: made.message,
+                attempts: self.copies.attempts(copy),
+            }),
+        }
+    }
+}
+
+fn told_details(fate: Fate, details: Option<CopyDetails>) -> Option<CopyDetails>
+    ensures { result ≡ told_details fate details }
+{
+    match fate {
+        Fate::Never => None,
+        Fate::Earlier => None,
+        _ => details,
     }
 }

@@ -1,0 +1,74 @@
+// The changes of a store, which take no memory.
+ghost use Rattle.std.specs.Prelude.{◌≡◌, ◌≤◌, ◌<◌, ◌+◌, ◌^◌, ℕ, true};
+ghost use Rattle.sp_copies.specs.History.{History, used_bytes, is_spooled, is_free, is_held, with_made, with_closed, with_held, with_given_back};
+ghost use Rattle.sp_copies.specs.Kept.{Records};
+
+use crate::closed::{ClosedCopy, Closing};
+use crate::copies::Copies;
+use crate::held::{CopyAttempts, HeldCopy};
+use crate::made::{MadeCopy, NewCopy};
+use sp_base::moment::Moment;
+use sp_base::number::{CopyNo, FlowNo};
+
+impl Copies {
+    /// Makes a copy, and takes no memory.
+    pub fn make(&mut self, copy: NewCopy) -> CopyNo
+        requires room { 0 < self.old.spare }
+        requires next { (H : History) → Records self.old H → H.next ≤ 2 ^ 62 }
+        requires used { (H : History) → Records self.old H → used_bytes H copy.endpoint + copy.size ≤ 2 ^ 40 }
+        ensures number { (H : History) → Records self.old H → result ≡ H.next }
+        ensures made { (H : History) → Records self.old H → Records self.new (with_made copy H) }
+        ensures room { self.old.spare ≤ self.new.spare + 1 }
+    {
+        let number = CopyNo::new(self.next);
+        self.made.add(MadeCopy {
+            number,
+            endpoint: copy.endpoint,
+            message: copy.message,
+            size: copy.size,
+            origin: copy.origin,
+            deadline: copy.deadline,
+            partition: copy.partition,
+        });
+        self.attempts.add(CopyAttempts {
+            copy: number,
+            count: 0,
+        });
+        self.next += 1;
+        self.spare -= 1;
+        number
+    }
+
+    /// Closes a spooled copy, and takes no memory. No flow holds it any more.
+    pub fn close(&mut self, copy: CopyNo, how: Closing, at: Moment)
+        requires spooled { (H : History) → Records self.old H → is_spooled H copy ≡ true }
+        ensures closed { (H : History) → Records self.old H → Records self.new (with_closed copy how at H) }
+        ensures room { self.old.spare ≤ self.new.spare }
+    {
+        self.closed.add(ClosedCopy {
+            copy,
+            how,
+            moment: at,
+        });
+        self.held.remove(copy);
+    }
+
+    /// Hands a spooled copy that no flow holds out to a flow, and takes no memory.
+    pub fn hold(&mut self, copy: CopyNo, flow: FlowNo)
+        requires free { (H : History) → Records self.old H → is_free H copy ≡ true }
+        ensures held { (H : History) → Records self.old H → Records self.new (with_held copy flow H) }
+        ensures room { self.old.spare ≤ self.new.spare }
+    {
+        self.held.add(HeldCopy { copy, flow });
+        self.attempts.count(copy);
+    }
+
+    /// Takes a copy back from the flow that holds it, and takes no memory.
+    pub fn give_back(&mut self, copy: CopyNo)
+        requires held { (H : History) → Records self.old H → is_held H.held copy ≡ true }
+        ensures given_back { (H : History) → Records self.old H → Records self.new (with_given_back copy H) }
+        ensures room { self.old.spare ≤ self.new.spare }
+    {
+        self.held.remove(copy);
+    }
+}

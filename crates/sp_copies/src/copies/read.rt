@@ -1,0 +1,140 @@
+// What a store tells of its copies and of who holds them.
+ghost use Rattle.std.specs.Prelude.{◌≡◌, ◌≤◌, ◌^◌, ℕ, IfOk};
+ghost use Rattle.sp_copies.specs.History.{History, copy_of, fate_of, attempts_of, used_bytes, holder_in, holder_of, held_by, is_held, is_held_by, is_spooled, is_free, next_spooled, waiting_copies};
+ghost use Rattle.sp_copies.specs.Kept.{Records};
+
+use crate::closed::Fate;
+use crate::copies::Copies;
+use crate::look::used_by;
+use crate::made::MadeCopy;
+use crate::{fates, holders};
+use sp_base::items::Items;
+use sp_base::moment::Moment;
+use sp_base::number::{CopyNo, EndpointNo, FlowNo};
+use std::alloc::{AllocError, Global};
+
+impl Copies {
+    /// The number that the next copy gets.
+    pub fn next(&self) -> u64
+        ensures { (H : History) → Records self.now H → result ≡ H.next }
+    {
+        self.next
+    }
+
+    /// The copy of a number, where it was made.
+    pub fn copy(&self, copy: CopyNo) -> Option<MadeCopy>
+        ensures { (H : History) → Records self.now H → result ≡ copy_of H.made copy }
+    {
+        fates::copy_of(self.made.as_slice(), copy)
+    }
+
+    /// What has become of a copy. A closing is told until 1,000,000 others have come after it.
+    pub fn fate(&self, copy: CopyNo) -> Fate
+        ensures { (H : History) → Records self.now H → result ≡ fate_of H copy }
+    {
+        fates::fate_of(self.made.as_slice(), self.closed.as_slice(), copy)
+    }
+
+    /// Whether a copy was made and not closed.
+    pub fn is_spooled(&self, copy: CopyNo) -> bool
+        ensures { (H : History) → Records self.now H → result ≡ is_spooled H copy }
+    {
+        fates::is_spooled(self.made.as_slice(), self.closed.as_slice(), copy)
+    }
+
+    /// Whether a copy is spooled and no flow holds it.
+    pub fn is_free(&self, copy: CopyNo) -> bool
+        ensures { (H : History) → Records self.now H → result ≡ is_free H copy }
+    {
+        self.is_spooled(copy) && !self.is_held(copy)
+    }
+
+    /// The least spooled copy of an endpoint above a number.
+    pub fn next_spooled(&self, endpoint: EndpointNo, after: CopyNo) -> Option<CopyNo>
+        ensures { (H : History) → Records self.now H → result ≡ next_spooled H endpoint after }
+    {
+        fates::next_spooled(
+            self.made.as_slice(),
+            self.closed.as_slice(),
+            endpoint,
+            after,
+        )
+    }
+
+    /// The bytes that an endpoint's spooled copies use.
+    pub fn used(&self, endpoint: EndpointNo) -> u64
+        ensures value { (H : History) → Records self.now H → result ≡ used_bytes H endpoint }
+        ensures bound { result ≤ 2 ^ 40 }
+    {
+        used_by(self.made.as_slice(), self.closed.as_slice(), endpoint)
+    }
+
+    /// How often a copy was handed out. The count stops at the greatest u64.
+    pub fn attempts(&self, copy: CopyNo) -> u64
+        ensures { (H : History) → Records self.now H → result ≡ attempts_of H.attempts copy }
+    {
+        holders::attempts_of(self.attempts.as_slice(), copy)
+    }
+
+    /// The flow that holds the least held copy of an endpoint's partition.
+    pub fn holder(&self, endpoint: EndpointNo, partition: u64) -> Option<FlowNo>
+        ensures { (H : History) → Records self.now H → result ≡ holder_in H endpoint partition }
+    {
+        holders::holder_in(
+            self.made.as_slice(),
+            self.held.as_slice(),
+            endpoint,
+            partition,
+        )
+    }
+
+    /// The flow that holds a copy.
+    pub fn holder_of(&self, copy: CopyNo) -> Option<FlowNo>
+        ensures { (H : History) → Records self.now H → result ≡ holder_of H.held copy }
+    {
+        holders::holder_of(self.held.as_slice(), copy)
+    }
+
+    /// Whether a flow holds a copy.
+    pub fn is_held(&self, copy: CopyNo) -> bool
+        ensures { (H : History) → Records self.now H → result ≡ is_held H.held copy }
+    {
+        holders::is_held(self.held.as_slice(), copy)
+    }
+
+    /// Whether this flow holds a copy.
+    pub fn is_held_by(&self, flow: FlowNo, copy: CopyNo) -> bool
+        ensures { (H : History) → Records self.now H → result ≡ is_held_by H.held flow copy }
+    {
+        holders::is_held_by(self.held.as_slice(), flow, copy)
+    }
+
+    /// The copies that a flow holds, in order of number.
+    pub fn held_by(&self, alloc: Global, flow: FlowNo) -> Result<Items<CopyNo>, AllocError>
+        ensures { IfOk result (λ copies. (H : History) → Records self.now H → copies ≡ held_by H flow) }
+    {
+        let copies = holders::held_by(alloc, self.made.as_slice(), self.held.as_slice(), flow)?;
+        Ok(Items::from_vec(copies))
+    }
+
+    /// The spooled copies of an endpoint that no flow holds and whose deadline hasn't come at the
+    /// moment, in order of number.
+    pub fn waiting(
+        &self,
+        alloc: Global,
+        endpoint: EndpointNo,
+        moment: Moment,
+    ) -> Result<Items<MadeCopy>, AllocError>
+        ensures { IfOk result (λ copies. (H : History) → Records self.now H → copies ≡ waiting_copies H endpoint moment) }
+    {
+        let copies = holders::waiting(
+            alloc,
+            self.made.as_slice(),
+            self.closed.as_slice(),
+            self.held.as_slice(),
+            endpoint,
+            moment,
+        )?;
+        Ok(Items::from_vec(copies))
+    }
+}

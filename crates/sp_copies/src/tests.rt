@@ -1,0 +1,187 @@
+use crate::closed::{Cause, CauseCount, Closing, Fate};
+use crate::copies::Copies;
+use crate::made::{NewCopy, Origin};
+use sp_base::moment::Moment;
+use sp_base::number::{CopyNo, EndpointNo, FlowNo, MessageNo};
+use std::alloc::Global;
+use std::process::Abort;
+use std::test::Fail;
+
+// Makes a copy of 64 bytes of message 1 in partition 0.
+fn make(
+    rt: &impl Abort,
+    copies: &mut Copies,
+    endpoint: EndpointNo,
+    deadline: Option<u64>,
+) -> CopyNo {
+    assert!(rt; copies.spare() > 0);
+    assert!(rt; copies.next() < 100);
+    assert!(rt; copies.used(endpoint) + 64 <= 1 << 40);
+    copies.make(NewCopy {
+        endpoint,
+        message: MessageNo::new(1),
+        size: 64,
+        origin: Origin::Published,
+        deadline,
+        partition: 0,
+    })
+}
+
+#[derive(Clone, Copy)]
+enum Step {
+    Hold(FlowNo),
+    GiveBack,
+    Close(Closing),
+}
+
+fn take(rt: &impl Abort, copies: &mut Copies, copy: CopyNo, step: Step) {
+    match step {
+        Step::Hold(flow) => {
+            assert!(rt; copies.is_free(copy));
+            copies.hold(copy, flow);
+        }
+        Step::GiveBack => {
+            assert!(rt; copies.is_held(copy));
+            copies.give_back(copy);
+        }
+        Step::Close(how) => {
+            assert!(rt; copies.is_spooled(copy));
+            copies.close(copy, how, Moment::START);
+        }
+    }
+}
+
+// What a store tells of a copy, its endpoint's used bytes, and the first spooled copy there.
+#[derive(Clone, Copy, Debug, PartialEq, Eq)]
+struct Shown {
+    fate: Fate,
+    attempts: u64,
+    holder: Option<FlowNo>,
+    used: u64,
+    first: Option<CopyNo>,
+}
+
+fn tell(copies: &Copies, endpoint: EndpointNo, copy: CopyNo) -> Shown {
+    Shown {
+        fate: copies.fate(copy),
+        attempts: copies.attempts(copy),
+        holder: copies.holder(endpoint, 0),
+        used: copies.used(endpoint),
+        first: copies.next_spooled(endpoint, CopyNo::new(0)),
+    }
+}
+
+#[test]
+fn a_copy_from_its_making_to_its_closing(rt: HostRuntime) -> Result<(), Fail> {
+    let queue = EndpointNo::new(1);
+    let mut copies = Copies::new(rt.alloc(), 1);
+    copies.reserve(2)?;
+    let first = make(&rt, &mut copies, queue, None);
+    let second = make(&rt, &mut copies, queue, None);
+    let free = Shown {
+        fate: Fate::Spooled,
+        attempts: 0,
+        holder: None,
+        used: 128,
+        first: Some(first),
+    };
+    let seven = FlowNo::new(7);
+    let eight = FlowNo::new(8);
+    for (step, after) in [
+        (
+            Step::Hold(seven),
+            Shown {
+                attempts: 1,
+                holder: Some(seven),
+                ..free
+            },
+        ),
+        (
+            Step::GiveBack,
+            Shown {
+                attempts: 1,
+                ..free
+            },
+        ),
+        (
+            Step::Hold(eight),
+            Shown {
+                attempts: 2,
+                holder: Some(eight),
+                ..free
+            },
+        ),
+        (
+            Step::Close(Closing::Accepted),
+            Shown {
+                fate: Fate::Accepted,
+                attempts: 2,
+                holder: None,
+                used: 64,
+                first: Some(second),
+            },
+        ),
+    ] {
+        take(&rt, &mut copies, first, step);
+        assert_eq!(rt; tell(&copies, queue, first), after);
+    }
+    Ok(())
+}
+
+#[test]
+fn what_a_flow_holds(rt: HostRuntime) -> Result<(), Fail> {
+    let alloc = rt.alloc();
+    let mut copies = Copies::new(alloc, 1);
+    copies.reserve(1)?;
+    let copy = make(&rt, &mut copies, EndpointNo::new(1), None);
+    take(&rt, &mut copies, copy, Step::Hold(FlowNo::new(1)));
+    let held = copies.held_by(alloc, FlowNo::new(1))?;
+    assert_eq!(rt; held.as_slice(), [copy].as_slice());
+    Ok(())
+}
+
+#[test]
+fn a_copy_waits_until_its_deadline(rt: HostRuntime) -> Result<(), Fail> {
+    let alloc = rt.alloc();
+    let queue = EndpointNo::new(1);
+    let mut copies = Copies::new(alloc, 1);
+    copies.reserve(2)?;
+    let lasting = make(&rt, &mut copies, queue, None);
+    let dated = make(&rt, &mut copies, queue, Some(1000));
+    let before = waiting(alloc, &copies, queue, 999)?;
+    assert_eq!(rt; before.as_slice(), [lasting, dated].as_slice());
+    let then = waiting(alloc, &copies, queue, 1000)?;
+    assert_eq!(rt; then.as_slice(), [lasting].as_slice());
+    Ok(())
+}
+
+// The numbers of the copies that wait at a moment.
+fn waiting(
+    alloc: Global,
+    copies: &Copies,
+    endpoint: EndpointNo,
+    moment: u64,
+) -> Result<Vec<CopyNo>, Fail> {
+    let moment = Moment::new(moment).ok_or("no moment")?;
+    let found = copies.waiting(alloc, endpoint, moment)?;
+    let numbers = found.as_slice().iter().map(|c| c.number).collect(alloc)?;
+    Ok(numbers)
+}
+
+#[test]
+fn why_copies_were_discarded(rt: HostRuntime) -> Result<(), Fail> {
+    let alloc = rt.alloc();
+    let queue = EndpointNo::new(1);
+    let mut copies = Copies::new(alloc, 1);
+    copies.reserve(1)?;
+    let copy = make(&rt, &mut copies, queue, None);
+    let expired = Step::Close(Closing::Discarded(Cause::Expired));
+    take(&rt, &mut copies, copy, expired);
+    let causes = copies.count_causes(alloc, Some(queue))?;
+    let counted = CauseCount {
+        cause: Cause::Expired,
+        count: 1,
+    };
+    assert_eq!(rt; causes.as_slice(), [counted].as_slice());
+    Ok(())
+}
