@@ -1,0 +1,140 @@
+ghost use Rattle.std.specs.Prelude.{◌≡◌, find, bytes_eq, Some};
+ghost use Rattle.std.specs.Option.{option_copied};
+ghost use Rattle.sp_config.specs.Names.{name_of, attr_named};
+ghost use Rattle.sp_config.specs.Ranges.{range_of};
+
+use crate::range::Range;
+
+/// An attribute of an endpoint. They stand in the byte order of their names.
+#[derive(Clone, Copy, Debug, PartialEq, Eq, PartialOrd, Ord)]
+pub enum Attr {
+    /// Which flows are handed out copies.
+    AccessType,
+    /// The queue that dead copies are moved to.
+    DeadMsgQueue,
+    /// Whether flows may bind and pull.
+    EgressEnabled,
+    /// Whether the endpoint takes messages.
+    IngressEnabled,
+    /// The most flows that may be bound at a time.
+    MaxBindCount,
+    /// The most copies that a flow may hold at a time: its window.
+    MaxDeliveredUnackedMsgsPerFlow,
+    /// The most bytes that a message may have.
+    MaxMsgSize,
+    /// The endpoint's quota, in units of 1,048,576 bytes.
+    MaxMsgSpoolUsage,
+    /// How often a copy is handed out again; 0 sets no bound.
+    MaxRedeliveryCount,
+    /// How long a copy may wait, in seconds; 0 sets no bound.
+    MaxTtl,
+    /// The caller who may do anything with the endpoint.
+    Owner,
+    /// How many partitions a queue has; 0 is none.
+    PartitionCount,
+    /// What callers who aren't the owner may do.
+    Permission,
+    /// For which reasons a publish is rejected.
+    RejectMsgToSenderOnDiscardBehavior,
+    /// Whether copies expire.
+    RespectTtlEnabled,
+}
+
+impl Attr {
+    /// All attributes, in the order of their names.
+    pub const ALL: [Attr; 15] = [
+        Attr::AccessType,
+        Attr::DeadMsgQueue,
+        Attr::EgressEnabled,
+        Attr::IngressEnabled,
+        Attr::MaxBindCount,
+        Attr::MaxDeliveredUnackedMsgsPerFlow,
+        Attr::MaxMsgSize,
+        Attr::MaxMsgSpoolUsage,
+        Attr::MaxRedeliveryCount,
+        Attr::MaxTtl,
+        Attr::Owner,
+        Attr::PartitionCount,
+        Attr::Permission,
+        Attr::RejectMsgToSenderOnDiscardBehavior,
+        Attr::RespectTtlEnabled,
+    ];
+
+    /// The attribute's name.
+    pub fn name(self) -> &'static str
+        ensures value { result.now ≡ name_of self }
+        ensures back { attr_named result.now ≡ Some self }
+    {
+        match self {
+            Attr::AccessType => "accessType",
+            Attr::DeadMsgQueue => "deadMsgQueue",
+            Attr::EgressEnabled => "egressEnabled",
+            Attr::IngressEnabled => "ingressEnabled",
+            Attr::MaxBindCount => "maxBindCount",
+            Attr::MaxDeliveredUnackedMsgsPerFlow => "maxDeliveredUnackedMsgsPerFlow",
+            Attr::MaxMsgSize => "maxMsgSize",
+            Attr::MaxMsgSpoolUsage => "maxMsgSpoolUsage",
+            Attr::MaxRedeliveryCount => "maxRedeliveryCount",
+            Attr::MaxTtl => "maxTtl",
+            Attr::Owner => "owner",
+            Attr::PartitionCount => "partitionCount",
+            Attr::Permission => "permission",
+            Attr::RejectMsgToSenderOnDiscardBehavior => "rejectMsgToSenderOnDiscardBehavior",
+            Attr::RespectTtlEnabled => "respectTtlEnabled",
+        }
+    }
+
+    /// The attribute of a name. None exactly where no attribute has it.
+    pub fn named(name: &str) -> Option<Attr>
+        ensures { result ≡ attr_named name.now }
+    {
+        attr_among(&Attr::ALL, name).copied()
+    }
+
+    /// Which values the attribute may have.
+    pub fn range(self) -> Range
+        ensures { result ≡ range_of self }
+    {
+        match self {
+            Attr::AccessType => Range::OneOf { words: 2 },
+            Attr::DeadMsgQueue => Range::SomeName,
+            Attr::EgressEnabled => Range::TrueOrFalse,
+            Attr::IngressEnabled => Range::TrueOrFalse,
+            Attr::MaxBindCount => Range::Between {
+                least: 0,
+                most: 10_000,
+            },
+            Attr::MaxDeliveredUnackedMsgsPerFlow => Range::Between {
+                least: 1,
+                most: 10_000,
+            },
+            Attr::MaxMsgSize => Range::Between {
+                least: 0,
+                most: 30_000_000,
+            },
+            Attr::MaxMsgSpoolUsage => Range::Between {
+                least: 1,
+                most: 800_000,
+            },
+            Attr::MaxRedeliveryCount => Range::Between {
+                least: 0,
+                most: 255,
+            },
+            Attr::MaxTtl => Range::Between {
+                least: 0,
+                most: 4_294_967_295,
+            },
+            Attr::Owner => Range::NameOrEmpty,
+            Attr::PartitionCount => Range::Between { least: 0, most: 64 },
+            Attr::Permission => Range::OneOf { words: 5 },
+            Attr::RejectMsgToSenderOnDiscardBehavior => Range::OneOf { words: 3 },
+            Attr::RespectTtlEnabled => Range::TrueOrFalse,
+        }
+    }
+}
+
+fn attr_among<'a>(attrs: &'a [Attr], name: &str) -> Option<&'a Attr>
+    ensures { option_copied result ≡ find (λ a. bytes_eq (name_of a) name.now) attrs.now }
+{
+    attrs.iter().find(|a| a.name() == name)
+}

@@ -1,0 +1,118 @@
+// Setting one attribute.
+ghost use Rattle.std.specs.Prelude.{◌≡◌, ◌↔◌, true, false, Some, None, IsErr, OnOk, OnErr};
+ghost use Rattle.sp_config.specs.Change.{with_value};
+ghost use Rattle.sp_config.specs.Ranges.{is_in_range};
+
+use crate::access_type::AccessType;
+use crate::attr::Attr;
+use crate::attributes::Attributes;
+use crate::discard::DiscardBehavior;
+use crate::permission::permission_at;
+use crate::value::AttrValue;
+use sp_base::name::Name;
+
+/// The value isn't one that the attribute may have.
+#[derive(Clone, Copy, Debug, PartialEq, Eq)]
+pub struct OutOfRange;
+
+impl Attributes {
+    /// Gives one attribute a value, and leaves all others as they are. It takes no memory.
+    /// OutOfRange exactly where the value isn't of the attribute's kind or not in its range; then
+    /// nothing has changed.
+    pub fn change(&mut self, attr: Attr, value: AttrValue) -> Result<(), OutOfRange>
+        ensures range { IsErr result ↔ (is_in_range attr value ≡ false) }
+        ensures ok { OnOk result (self.new ≡ with_value attr value self.old) }
+        ensures err { OnErr result (self.new ≡ self.old) }
+    {
+        if !attr.range().has(&value) {
+            return Err(OutOfRange);
+        }
+        self.set(attr, value);
+        Ok(())
+    }
+
+    fn set(&mut self, attr: Attr, value: AttrValue)
+        requires { is_in_range attr value ≡ true }
+        ensures { self.new ≡ with_value attr value self.old }
+    {
+        match value {
+            AttrValue::Whole(n) => self.set_whole(attr, n),
+            AttrValue::Flag(b) => self.set_flag(attr, b),
+            AttrValue::Word(place) => self.set_word(attr, place),
+            AttrValue::Text(Some(name)) => self.set_name(attr, name),
+            AttrValue::Text(None) => self.set_no_name(attr),
+        }
+    }
+
+    #[tactic(auto, unfolding(crate::specs::Change::with_value))]
+    fn set_whole(&mut self, attr: Attr, n: u64)
+        requires { is_in_range attr (AttrValue.Whole n) ≡ true }
+        ensures { self.new ≡ with_value attr (AttrValue.Whole n) self.old }
+    {
+        match attr {
+            Attr::MaxBindCount => self.max_bind_count = n,
+            Attr::MaxDeliveredUnackedMsgsPerFlow => self.max_delivered_unacked_msgs_per_flow = n,
+            Attr::MaxMsgSize => self.max_msg_size = n,
+            Attr::MaxMsgSpoolUsage => self.max_msg_spool_usage = n,
+            Attr::MaxRedeliveryCount => self.max_redelivery_count = n,
+            Attr::MaxTtl => self.max_ttl = n,
+            Attr::PartitionCount => self.partition_count = n,
+            _ => {}
+        }
+    }
+
+    #[tactic(auto, unfolding(crate::specs::Change::with_value))]
+    fn set_flag(&mut self, attr: Attr, b: bool)
+        ensures { self.new ≡ with_value attr (AttrValue.Flag b) self.old }
+    {
+        match attr {
+            Attr::EgressEnabled => self.egress_enabled = b,
+            Attr::IngressEnabled => self.ingress_enabled = b,
+            Attr::RespectTtlEnabled => self.respect_ttl_enabled = b,
+            _ => {}
+        }
+    }
+
+    #[tactic(auto, unfolding(crate::specs::Change::with_value))]
+    fn set_word(&mut self, attr: Attr, place: u8)
+        ensures { self.new ≡ with_value attr (AttrValue.Word place) self.old }
+    {
+        match attr {
+            Attr::AccessType => {
+                let access_type = AccessType::at(place);
+                self.access_type = access_type.unwrap_or(self.access_type);
+            }
+            Attr::Permission => {
+                let permission = permission_at(place);
+                self.permission = permission.unwrap_or(self.permission);
+            }
+            Attr::RejectMsgToSenderOnDiscardBehavior => {
+                let behavior = DiscardBehavior::at(place);
+                self.reject_msg_to_sender_on_discard_behavior = behavior.unwrap_or(
+                    self.reject_msg_to_sender_on_discard_behavior,
+                );
+            }
+            _ => {}
+        }
+    }
+
+    #[tactic(auto, unfolding(crate::specs::Change::with_value))]
+    fn set_name(&mut self, attr: Attr, name: Name)
+        ensures { self.new ≡ with_value attr (AttrValue.Text (Some name)) self.old }
+    {
+        match attr {
+            Attr::DeadMsgQueue => self.dead_msg_queue = name,
+            Attr::Owner => self.owner = Some(name),
+            _ => {}
+        }
+    }
+
+    #[tactic(auto, unfolding(crate::specs::Change::with_value))]
+    fn set_no_name(&mut self, attr: Attr)
+        ensures { self.new ≡ with_value attr (AttrValue.Text None) self.old }
+    {
+        if attr == Attr::Owner {
+            self.owner = None;
+        }
+    }
+}

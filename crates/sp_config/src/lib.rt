@@ -1,0 +1,13 @@
+//! The attributes of an endpoint: their names, the values that they may have, their defaults, and
+//! what follows from them for a copy.
+#![tactic(auto)]
+
+pub mod access_type;
+pub mod attr;
+pub mod attributes;
+pub mod discard;
+pub mod permission;
+pub mod range;
+#[cfg(test)]
+mod tests;
+pub mod value;
