@@ -1,0 +1,14 @@
+pub mod Answered
+pub mod Chains
+pub mod Complete
+pub mod Fronts
+pub mod Limits
+pub mod ListReading
+pub mod Numbers
+pub mod Outcomes
+pub mod Quotes
+pub mod Readings
+pub mod Scans
+pub mod Selectors
+pub mod Sound
+pub mod Steps

@@ -1,0 +1,9 @@
+pub mod Grammar
+pub mod Limit
+pub mod Parser
+pub mod Scan
+pub mod Selector
+pub mod Shown
+pub mod Tree
+pub mod Values
+pub mod Wild
