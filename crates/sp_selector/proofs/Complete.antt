@@ -113,13 +113,13 @@ rank (Test e) = 1
 rank Factor = 2
 rank Primary = 1
 
-operand_rank : (chain : Chain) → rank (operand_of chain) < chain_rank chain
+pub operand_rank : (chain : Chain) → rank (operand_of chain) < chain_rank chain
 operand_rank Disjunction = lit< tt
 operand_rank Conjunction = lit< tt
 operand_rank Sum = lit< tt
 operand_rank Product = lit< tt
 
-rank_small : (level : Level) → rank level ≤ 8
+pub rank_small : (level : Level) → rank level ≤ 8
 rank_small (Chained Disjunction) = lit≤ tt
 rank_small (Chained Conjunction) = lit≤ tt
 rank_small (Chained Sum) = lit≤ tt
@@ -135,7 +135,7 @@ texts_shorter rule.last = omega arith
 texts_shorter (rule.more d) = omega (arith, texts_shorter d)
 
 -- each level takes a token or more
-shorter : {level : Level} {ts : List Token} {e : Expression} {rest : List Token} → Derives level ts e rest → length rest < length ts
+pub shorter : {level : Level} {ts : List Token} {e : Expression} {rest : List Token} → Derives level ts e rest → length rest < length ts
 shorter (rule.one d) = shorter d
 shorter (rule.another j d f) = omega (arith, shorter d, shorter f)
 shorter (rule.negated d) = omega (arith, shorter d)

@@ -38,7 +38,7 @@ used_all : (e f : Expression) (rest : List Token) → all_used e rest ≡ Ok f �
 used_all e f [] h = (refl, cc)
 used_all e f (t ∷ ts) h = cc
 
-reading_sound : (ts : List Token) (e : Expression) → reading_of ts ≡ Ok e → Derives (Chained Disjunction) ts e []
+pub reading_sound : (ts : List Token) (e : Expression) → reading_of ts ≡ Ok e → Derives (Chained Disjunction) ts e []
 reading_sound ts e h =
     let b = bind_ok (reads (10 * length ts + 10) (Whole (Chained Disjunction)) ts) _ _ h in
     let u = used_all b.0.0 e b.0.1 b.2 in

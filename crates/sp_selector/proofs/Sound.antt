@@ -26,7 +26,7 @@ Says (Condition_after l) ts e rest = (before : List Token) → Derives (Chained 
 abbrev pub IsSound : (Goal → List Token → Reading Expression) → Type 0
 IsSound go = (goal : Goal) (ts : List Token) (e : Expression) (rest : List Token) → go goal ts ≡ Ok (e, rest) → Says goal ts e rest
 
-and_was : (ts rest : List Token) → after_and ts ≡ Ok rest → ts ≡ token.Infix operator.And ∷ rest
+pub and_was : (ts rest : List Token) → after_and ts ≡ Ok rest → ts ≡ token.Infix operator.And ∷ rest
 and_was (token.Infix operator.And ∷ ts) rest h = cc
 and_was ts rest h = cc
 
@@ -34,7 +34,7 @@ close_was : (ts rest : List Token) → after_close ts ≡ Ok rest → ts ≡ tok
 close_was (token.Mark mark.Close ∷ ts) rest h = cc
 close_was ts rest h = cc
 
-open_was : (ts rest : List Token) → after_open ts ≡ Ok rest → ts ≡ token.Mark mark.Open ∷ rest
+pub open_was : (ts rest : List Token) → after_open ts ≡ Ok rest → ts ≡ token.Mark mark.Open ∷ rest
 open_was (token.Mark mark.Open ∷ ts) rest h = cc
 open_was ts rest h = cc
 

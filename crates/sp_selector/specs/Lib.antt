@@ -1,6 +1,7 @@
 pub mod Grammar
 pub mod Limit
 pub mod Parser
+pub mod Places
 pub mod Scan
 pub mod Selector
 pub mod Shown

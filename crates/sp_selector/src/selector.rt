@@ -1,6 +1,7 @@
 ghost use Rattle.std.specs.Prelude.{◌≡◌, ◌≤◌, ℕ, List, length, IfOk};
 ghost use Rattle.sp_base.specs.Topic.{first_bad_byte};
 ghost use Rattle.sp_selector.specs.Parser.{Gives};
+ghost use Rattle.sp_selector.specs.Places.{IsBadAt};
 ghost use Rattle.sp_selector.specs.Selector.{Answers, IsSelector, is_true, judged, judgement, reading_of, selector_in};
 ghost use Rattle.sp_selector.specs.Tree.{Expression, expression};
 ghost use Rattle.sp_selector.specs.Values.{value};
@@ -25,8 +26,8 @@ pub const MOST_COUNTED: usize = 200;
 #[derive(Debug, Drop, Error)]
 pub enum SelectorError {
     /// `at` is 2000 for more than 2,000 bytes, the offset of the first byte that is not UTF-8, or of
-    /// the first token that is bad by itself, can't stand where it stands or is counted beyond the
-    /// limit, or the text's length where more is missing. The first of these that applies counts.
+    /// the first token that is bad by itself or after which no continuation is a selector, or the
+    /// text's length where more is missing. The first of these that applies counts.
     #[error("no selector, by the byte at {at}")]
     Bad { at: u64 },
     #[error("want of memory")]
@@ -58,7 +59,7 @@ impl Selector {
         ensures tree { IfOk result (λ s. IsSelector text.now (tree_of s)) }
         ensures only { IfOk result (λ s. (e : Expression) → IsSelector text.now e → tree_of s ≡ e) }
         ensures none { (at : ℕ) (e : Expression) → result ≡ Err (SelectorError.Bad at) → IsSelector text.now e → ⊥ }
-        ensures at { Answers tree_of result (selector_in text.now) }
+        ensures place { (at : ℕ) → result ≡ Err (SelectorError.Bad at) → IsBadAt text.now at }
     {
         Selector::read_all(alloc, text)
     }
@@ -83,9 +84,10 @@ impl Selector {
     }
 }
 
-/// No text is a selector of two trees.
-pub fn one_tree()
-    ensures { (text : List ℕ) (e f : Expression) → IsSelector text e → IsSelector text f → e ≡ f }
+/// No text is a selector of two trees, or bad at two offsets.
+pub fn one_answer()
+    ensures tree { (text : List ℕ) (e f : Expression) → IsSelector text e → IsSelector text f → e ≡ f }
+    ensures place { (text : List ℕ) (a b : ℕ) → IsBadAt text a → IsBadAt text b → a ≡ b }
 {}
 
 #[tactic(auto, using(crate::proofs::Selectors::few_tokens), unfolding(crate::specs::Selector::selector_in))]
