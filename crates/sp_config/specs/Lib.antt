@@ -6,3 +6,4 @@ pub mod Inside
 pub mod Names
 pub mod Ranges
 pub mod Rejects
+pub mod Settings

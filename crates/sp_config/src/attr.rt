@@ -2,6 +2,9 @@ ghost use Rattle.std.specs.Prelude.{◌≡◌, find, bytes_eq, Some};
 ghost use Rattle.std.specs.Option.{option_copied};
 ghost use Rattle.sp_config.specs.Names.{name_of, attr_named};
 ghost use Rattle.sp_config.specs.Ranges.{range_of};
+ghost use Rattle.sp_config.specs.Settings.{number_of};
+
+mod words;
 
 use crate::range::Range;
 
@@ -89,6 +92,29 @@ impl Attr {
         ensures { result ≡ attr_named name.now }
     {
         attr_among(&Attr::ALL, name).copied()
+    }
+
+    /// Its place in the order of names, from 1 to 15.
+    pub fn number(self) -> u8
+        ensures { result ≡ number_of self }
+    {
+        match self {
+            Attr::AccessType => 1,
+            Attr::DeadMsgQueue => 2,
+            Attr::EgressEnabled => 3,
+            Attr::IngressEnabled => 4,
+            Attr::MaxBindCount => 5,
+            Attr::MaxDeliveredUnackedMsgsPerFlow => 6,
+            Attr::MaxMsgSize => 7,
+            Attr::MaxMsgSpoolUsage => 8,
+            Attr::MaxRedeliveryCount => 9,
+            Attr::MaxTtl => 10,
+            Attr::Owner => 11,
+            Attr::PartitionCount => 12,
+            Attr::Permission => 13,
+            Attr::RejectMsgToSenderOnDiscardBehavior => 14,
+            Attr::RespectTtlEnabled => 15,
+        }
     }
 
     /// Which values the attribute may have.

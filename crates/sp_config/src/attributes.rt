@@ -6,6 +6,7 @@ mod read;
 
 use crate::access_type::AccessType;
 use crate::discard::DiscardBehavior;
+use crate::value::copy_of;
 pub use change::OutOfRange;
 use sp_base::failure::Memory;
 use sp_base::name::{Name, NameError};
@@ -100,14 +101,5 @@ fn dead_msg_queue(alloc: Global) -> Result<Name, Memory>
         Ok(name) => Ok(name),
         Err(NameError::Memory) => Err(Memory),
         Err(NameError::BadName) => unreachable!(),
-    }
-}
-
-fn copy_of(alloc: Global, owner: &Option<Name>) -> Result<Option<Name>, AllocError>
-    ensures { IfOk result (λ o. o ≡ owner.now) }
-{
-    match owner {
-        Some(name) => Ok(Some(name.copy(alloc)?)),
-        None => Ok(None),
     }
 }

@@ -6,8 +6,11 @@ pub mod access_type;
 pub mod attr;
 pub mod attributes;
 pub mod discard;
+pub mod kind;
 pub mod permission;
 pub mod range;
+pub mod setting;
+pub mod settings;
 #[cfg(test)]
 mod tests;
 pub mod value;

@@ -2,11 +2,14 @@ use crate::access_type::AccessType;
 use crate::attr::Attr;
 use crate::attributes::Attributes;
 use crate::discard::{DiscardBehavior, Why};
+use crate::kind::EndpointKind;
 use crate::permission::{permission_at, permission_named, permission_place, permission_word};
+use crate::range::Range;
+use crate::setting::Setting;
+use crate::settings::Settings;
 use crate::value::AttrValue;
 use sp_base::moment::Moment;
 use sp_base::name::Name;
-use sp_base::refusal::Permission;
 use std::alloc::Global;
 use std::test::Fail;
 
@@ -18,192 +21,335 @@ fn defaults(alloc: Global) -> Result<Attributes, Fail> {
     Ok(Attributes::defaults(alloc, name(alloc, "shop")?)?)
 }
 
-/// Whether an attribute may be the value.
-fn takes(alloc: Global, attr: Attr, value: AttrValue) -> Result<bool, Fail> {
-    Ok(defaults(alloc)?.change(attr, value).is_ok())
+fn numbers(attributes: &Attributes) -> [u64; 8] {
+    [
+        attributes.max_bind_count(),
+        attributes.max_delivered_unacked_msgs_per_flow(),
+        attributes.max_msg_size(),
+        attributes.max_msg_spool_usage(),
+        attributes.quota_bytes(),
+        attributes.max_redelivery_count(),
+        attributes.max_ttl(),
+        attributes.partition_count(),
+    ]
 }
 
-fn whole(attributes: &Attributes, attr: Attr) -> Option<u64> {
-    match attr {
-        Attr::MaxBindCount => Some(attributes.max_bind_count()),
-        Attr::MaxDeliveredUnackedMsgsPerFlow => {
-            Some(attributes.max_delivered_unacked_msgs_per_flow())
-        }
-        Attr::MaxMsgSize => Some(attributes.max_msg_size()),
-        Attr::MaxMsgSpoolUsage => Some(attributes.max_msg_spool_usage()),
-        Attr::MaxRedeliveryCount => Some(attributes.max_redelivery_count()),
-        Attr::MaxTtl => Some(attributes.max_ttl()),
-        Attr::PartitionCount => Some(attributes.partition_count()),
-        _ => None,
+fn flags(attributes: &Attributes) -> [bool; 3] {
+    [
+        attributes.egress_enabled(),
+        attributes.ingress_enabled(),
+        attributes.respect_ttl_enabled(),
+    ]
+}
+
+fn choices(attributes: &Attributes) -> [&'static str; 3] {
+    [
+        attributes.access_type().word(),
+        permission_word(attributes.permission()),
+        attributes.reject_msg_to_sender_on_discard_behavior().word(),
+    ]
+}
+
+fn owner(attributes: &Attributes) -> &str {
+    match attributes.owner() {
+        Some(name) => name.as_str(),
+        None => "",
     }
 }
 
+/// Whether the attribute has this name, the name leads back to it, and its values are in the range.
+fn is_named(attr: Attr, name: &str, range: Range) -> bool {
+    attr.name() == name && Attr::named(name) == Some(attr) && attr.range() == range
+}
+
 #[test]
-fn fifteen_names_lead_both_ways(rt: HostRuntime) {
-    let names = [
-        "accessType",
-        "deadMsgQueue",
-        "egressEnabled",
-        "ingressEnabled",
-        "maxBindCount",
-        "maxDeliveredUnackedMsgsPerFlow",
-        "maxMsgSize",
-        "maxMsgSpoolUsage",
-        "maxRedeliveryCount",
-        "maxTtl",
-        "owner",
-        "partitionCount",
-        "permission",
-        "rejectMsgToSenderOnDiscardBehavior",
-        "respectTtlEnabled",
-    ];
-    for (attr, name) in Attr::ALL.iter().zip(names.iter()) {
-        assert_eq!(rt; attr.name(), *name);
-        assert_eq!(rt; Attr::named(*name), Some(*attr));
+fn fifteen_attributes_with_their_names_and_ranges(rt: HostRuntime) {
+    for (attr, name, range) in [
+        (Attr::AccessType, "accessType", Range::OneOf { words: 2 }),
+        (Attr::DeadMsgQueue, "deadMsgQueue", Range::SomeName),
+        (Attr::EgressEnabled, "egressEnabled", Range::TrueOrFalse),
+        (Attr::IngressEnabled, "ingressEnabled", Range::TrueOrFalse),
+        (Attr::MaxBindCount, "maxBindCount", between(0, 10_000)),
+        (
+            Attr::MaxDeliveredUnackedMsgsPerFlow,
+            "maxDeliveredUnackedMsgsPerFlow",
+            between(1, 10_000),
+        ),
+        (Attr::MaxMsgSize, "maxMsgSize", between(0, 30_000_000)),
+        (
+            Attr::MaxMsgSpoolUsage,
+            "maxMsgSpoolUsage",
+            between(1, 800_000),
+        ),
+        (
+            Attr::MaxRedeliveryCount,
+            "maxRedeliveryCount",
+            between(0, 255),
+        ),
+        (Attr::MaxTtl, "maxTtl", between(0, 4_294_967_295)),
+        (Attr::Owner, "owner", Range::NameOrEmpty),
+        (Attr::PartitionCount, "partitionCount", between(0, 64)),
+        (Attr::Permission, "permission", Range::OneOf { words: 5 }),
+        (
+            Attr::RejectMsgToSenderOnDiscardBehavior,
+            "rejectMsgToSenderOnDiscardBehavior",
+            Range::OneOf { words: 3 },
+        ),
+        (
+            Attr::RespectTtlEnabled,
+            "respectTtlEnabled",
+            Range::TrueOrFalse,
+        ),
+    ] {
+        assert!(rt; is_named(attr, name, range), "{name}");
     }
     for name in ["", "colour", "AccessType", "maxTtl "] {
         assert!(rt; Attr::named(name).is_none(), "{name}");
     }
 }
 
+fn between(least: u64, most: u64) -> Range {
+    Range::Between { least, most }
+}
+
 #[test]
-fn whole_numbers_at_both_ends_and_outside(rt: HostRuntime) -> Result<(), Fail> {
-    let alloc = rt.alloc();
-    for (name, least, most) in [
-        ("maxBindCount", 0, 10_000),
-        ("maxDeliveredUnackedMsgsPerFlow", 1, 10_000),
-        ("maxMsgSize", 0, 30_000_000),
-        ("maxMsgSpoolUsage", 1, 800_000),
-        ("maxRedeliveryCount", 0, 255),
-        ("maxTtl", 0, 4_294_967_295),
-        ("partitionCount", 0, 64),
+fn which_values_a_range_has(rt: HostRuntime) -> Result<(), Fail> {
+    let name = name(rt.alloc(), "dead")?;
+    let values = [
+        AttrValue::Whole(7),
+        AttrValue::Flag(false),
+        AttrValue::Word(1),
+        AttrValue::Text(None),
+        AttrValue::Text(Some(name)),
+    ];
+    for (range, expected) in [
+        (between(7, 7), [true, false, false, false, false]),
+        (between(8, 9), [false; 5]),
+        (between(0, 6), [false; 5]),
+        (Range::TrueOrFalse, [false, true, false, false, false]),
+        (
+            Range::OneOf { words: 2 },
+            [false, false, true, false, false],
+        ),
+        (Range::OneOf { words: 1 }, [false; 5]),
+        (Range::SomeName, [false, false, false, false, true]),
+        (Range::NameOrEmpty, [false, false, false, true, true]),
     ] {
-        let attr = Attr::named(name).ok_or("no attribute")?;
-        let mut attributes = defaults(alloc)?;
-        for n in [least, most] {
-            assert!(rt;
-                attributes.change(attr, AttrValue::Whole(n)).is_ok(),
-                "{name} {n}"
-            );
-            assert_eq!(rt; whole(&attributes, attr), Some(n), "{name}");
+        assert_eq!(rt; has(range, &values), expected);
+    }
+    Ok(())
+}
+
+fn has(range: Range, values: &[AttrValue; 5]) -> [bool; 5] {
+    [
+        range.has(&values[0]),
+        range.has(&values[1]),
+        range.has(&values[2]),
+        range.has(&values[3]),
+        range.has(&values[4]),
+    ]
+}
+
+fn is_access_type(place: u8, word: &str) -> bool {
+    match AccessType::at(place) {
+        Some(t) => t.word() == word && t.place() == place && AccessType::named(word) == Some(t),
+        None => false,
+    }
+}
+
+fn is_permission(place: u8, word: &str) -> bool {
+    match permission_at(place) {
+        Some(p) => {
+            permission_word(p) == word
+                && permission_place(p) == place
+                && permission_named(word) == Some(p)
         }
-        assert!(rt;
-            attributes.change(attr, AttrValue::Whole(most + 1)).is_err(),
-            "{name}"
-        );
-        assert_eq!(rt; whole(&attributes, attr), Some(most), "{name}");
-        assert_eq!(rt;
-            takes(alloc, attr, AttrValue::Whole(0))?,
-            least == 0,
-            "{name}"
-        );
-        assert!(rt; !takes(alloc, attr, AttrValue::Flag(true))?, "{name}");
+        None => false,
     }
-    Ok(())
 }
 
-#[test]
-fn flags_and_names_are_of_their_kinds(rt: HostRuntime) -> Result<(), Fail> {
-    let alloc = rt.alloc();
-    for attr in [
-        Attr::EgressEnabled,
-        Attr::IngressEnabled,
-        Attr::RespectTtlEnabled,
-    ] {
-        assert!(rt; takes(alloc, attr, AttrValue::Flag(true))?);
-        assert!(rt; takes(alloc, attr, AttrValue::Flag(false))?);
-        assert!(rt; !takes(alloc, attr, AttrValue::Whole(1))?);
+fn is_behavior(place: u8, word: &str) -> bool {
+    match DiscardBehavior::at(place) {
+        Some(b) => b.word() == word
+            && b.place() == place
+            && DiscardBehavior::named(word) == Some(b),
+        None => false,
     }
-    assert!(rt;
-        takes(
-            alloc,
-            Attr::DeadMsgQueue,
-            AttrValue::Text(Some(name(alloc, "dead")?))
-        )?
-    );
-    assert!(rt; !takes(alloc, Attr::DeadMsgQueue, AttrValue::Text(None))?);
-    assert!(rt;
-        takes(
-            alloc,
-            Attr::Owner,
-            AttrValue::Text(Some(name(alloc, "ann")?))
-        )?
-    );
-    assert!(rt; takes(alloc, Attr::Owner, AttrValue::Text(None))?);
-    assert!(rt; !takes(alloc, Attr::Owner, AttrValue::Word(0))?);
-    Ok(())
 }
 
-#[test]
-fn choices_have_their_words_and_no_more(rt: HostRuntime) -> Result<(), Fail> {
-    let alloc = rt.alloc();
-    for (attr, words) in [
-        (Attr::AccessType, 2),
-        (Attr::Permission, 5),
-        (Attr::RejectMsgToSenderOnDiscardBehavior, 3),
-    ] {
-        assert!(rt; takes(alloc, attr, AttrValue::Word(0))?);
-        assert!(rt; takes(alloc, attr, AttrValue::Word(words - 1))?);
-        assert!(rt; !takes(alloc, attr, AttrValue::Word(words))?);
-        assert!(rt; !takes(alloc, attr, AttrValue::Text(None))?);
+/// Whether the word stands for the choice at this place, and both lead back to it.
+fn is_word(attr: Attr, place: u8, word: &str) -> bool {
+    if attr.word_place(word) != Some(place) {
+        return false;
     }
-    Ok(())
+    match attr {
+        Attr::AccessType => is_access_type(place, word),
+        Attr::Permission => is_permission(place, word),
+        _ => is_behavior(place, word),
+    }
 }
 
 #[test]
 fn words_lead_both_ways(rt: HostRuntime) {
-    for (place, word) in [(0, "exclusive"), (1, "non-exclusive")] {
-        let access_type = AccessType::at(place);
-        assert_eq!(rt; AccessType::named(word), access_type, "{word}");
-        assert_eq!(rt; access_type.map(|t| t.word()), Some(word));
-        assert_eq!(rt; access_type.map(|t| t.place()), Some(place));
-    }
-    for (place, word) in [
-        (0, "no-access"),
-        (1, "read-only"),
-        (2, "consume"),
-        (3, "modify-topic"),
-        (4, "delete"),
+    let behavior = Attr::RejectMsgToSenderOnDiscardBehavior;
+    for (attr, place, word) in [
+        (Attr::AccessType, 0, "exclusive"),
+        (Attr::AccessType, 1, "non-exclusive"),
+        (Attr::Permission, 0, "no-access"),
+        (Attr::Permission, 1, "read-only"),
+        (Attr::Permission, 2, "consume"),
+        (Attr::Permission, 3, "modify-topic"),
+        (Attr::Permission, 4, "delete"),
+        (behavior, 0, "always"),
+        (behavior, 1, "when-queue-enabled"),
+        (behavior, 2, "never"),
     ] {
-        let permission = permission_at(place);
-        assert_eq!(rt; permission_named(word), permission, "{word}");
-        assert_eq!(rt; permission.map(|p| permission_word(p)), Some(word));
-        assert_eq!(rt; permission.map(|p| permission_place(p)), Some(place));
+        assert!(rt; is_word(attr, place, word), "{word}");
     }
-    for (place, word) in [(0, "always"), (1, "when-queue-enabled"), (2, "never")] {
-        let behavior = DiscardBehavior::at(place);
-        assert_eq!(rt; DiscardBehavior::named(word), behavior, "{word}");
-        assert_eq!(rt; behavior.map(|b| b.word()), Some(word));
-        assert_eq!(rt; behavior.map(|b| b.place()), Some(place));
+    for (attr, word) in [
+        (Attr::AccessType, "Exclusive"),
+        (Attr::Permission, "none"),
+        (behavior, ""),
+        (Attr::Owner, "delete"),
+    ] {
+        assert!(rt; attr.word_place(word).is_none(), "{word}");
     }
-    assert!(rt; AccessType::named("Exclusive").is_none());
-    assert!(rt; permission_named("none").is_none());
-    assert!(rt; DiscardBehavior::named("").is_none());
+}
+
+#[test]
+fn two_kinds_of_endpoints(rt: HostRuntime) {
+    let found = ["queue", "topic-endpoint", "topic"].map(|word| EndpointKind::named(word));
+    let [queue, topic_endpoint] = EndpointKind::ALL;
+    assert_eq!(rt; found, [Some(queue), Some(topic_endpoint), None]);
+    assert_eq!(rt;
+        [queue.word(), topic_endpoint.word()],
+        ["queue", "topic-endpoint"]
+    );
+}
+
+fn copied(alloc: Global) -> Result<Attributes, Fail> {
+    Ok(defaults(alloc)?.copy(alloc)?)
 }
 
 #[test]
 fn the_defaults_and_a_copy_of_them(rt: HostRuntime) -> Result<(), Fail> {
-    let alloc = rt.alloc();
-    let attributes = defaults(alloc)?.copy(alloc)?;
-    assert_eq!(rt; attributes.access_type(), AccessType::NonExclusive);
-    assert_eq!(rt; attributes.dead_msg_queue().as_str(), "#DEAD_MSG_QUEUE");
-    assert!(rt; attributes.egress_enabled() && attributes.ingress_enabled());
-    assert_eq!(rt; attributes.max_bind_count(), 1_000);
-    assert_eq!(rt; attributes.max_delivered_unacked_msgs_per_flow(), 1_000);
-    assert_eq!(rt; attributes.max_msg_size(), 10_000_000);
-    assert_eq!(rt; attributes.max_msg_spool_usage(), 5_000);
-    assert_eq!(rt; attributes.quota_bytes(), 5_242_880_000);
-    assert_eq!(rt; attributes.max_redelivery_count(), 0);
-    assert_eq!(rt; attributes.max_ttl(), 0);
-    assert_eq!(rt; attributes.owner().ok_or("no owner")?.as_str(), "shop");
-    assert_eq!(rt; attributes.partition_count(), 0);
-    assert_eq!(rt; attributes.permission(), Permission::NoAccess);
+    let attributes = copied(rt.alloc())?;
     assert_eq!(rt;
-        attributes.reject_msg_to_sender_on_discard_behavior(),
-        DiscardBehavior::Always
+        numbers(&attributes),
+        [1_000, 1_000, 10_000_000, 5_000, 5_242_880_000, 0, 0, 0]
     );
-    assert!(rt; !attributes.respect_ttl_enabled());
+    assert_eq!(rt; flags(&attributes), [true, true, false]);
+    assert_eq!(rt;
+        choices(&attributes),
+        ["non-exclusive", "no-access", "always"]
+    );
+    assert_eq!(rt; attributes.dead_msg_queue().as_str(), "#DEAD_MSG_QUEUE");
+    assert_eq!(rt; owner(&attributes), "shop");
+    assert!(rt; attributes.rejects(Why::Ingress));
     Ok(())
+}
+
+/// The defaults, in which one attribute of each kind is changed.
+fn changed(alloc: Global) -> Result<Attributes, Fail> {
+    let mut attributes = defaults(alloc)?;
+    let dead = name(alloc, "dead")?;
+    attributes.change(Attr::DeadMsgQueue, AttrValue::Text(Some(dead)))?;
+    attributes.change(Attr::MaxTtl, AttrValue::Whole(3))?;
+    attributes.change(Attr::Owner, AttrValue::Text(None))?;
+    attributes.change(Attr::Permission, AttrValue::Word(4))?;
+    attributes.change(Attr::RespectTtlEnabled, AttrValue::Flag(true))?;
+    Ok(attributes)
+}
+
+#[test]
+fn a_change_sets_one_attribute_or_none(rt: HostRuntime) -> Result<(), Fail> {
+    let mut attributes = changed(rt.alloc())?;
+    let refused = attributes.change(Attr::MaxTtl, AttrValue::Whole(4_294_967_296));
+    assert!(rt; refused.is_err());
+    assert_eq!(rt;
+        numbers(&attributes),
+        [1_000, 1_000, 10_000_000, 5_000, 5_242_880_000, 0, 3, 0]
+    );
+    assert_eq!(rt; flags(&attributes), [true, true, true]);
+    assert_eq!(rt; choices(&attributes), ["non-exclusive", "delete", "always"]);
+    assert_eq!(rt; attributes.dead_msg_queue().as_str(), "dead");
+    assert_eq!(rt; owner(&attributes), "");
+    Ok(())
+}
+
+/// The settings of whole numbers, if they are settings.
+fn settings(alloc: Global, rows: [(Attr, u64); 2]) -> Result<Option<Settings>, Fail> {
+    let mut settings = Vec::new(alloc);
+    for (attr, n) in rows {
+        let value = AttrValue::Whole(n);
+        settings.push(Setting { attr, value })?;
+    }
+    Ok(Settings::from_vec(settings))
+}
+
+#[test]
+fn settings_rise_and_are_in_range(rt: HostRuntime) -> Result<(), Fail> {
+    let alloc = rt.alloc();
+    for (rows, expected) in [
+        ([(Attr::MaxTtl, 3), (Attr::PartitionCount, 64)], true),
+        ([(Attr::PartitionCount, 64), (Attr::MaxTtl, 3)], false),
+        ([(Attr::MaxTtl, 3), (Attr::MaxTtl, 4)], false),
+        ([(Attr::MaxTtl, 3), (Attr::PartitionCount, 65)], false),
+    ] {
+        assert_eq!(rt; settings(alloc, rows)?.is_some(), expected);
+    }
+    Ok(())
+}
+
+fn two_settings(alloc: Global) -> Result<Settings, Fail> {
+    let rows = [(Attr::MaxTtl, 3), (Attr::PartitionCount, 1)];
+    Ok(settings(alloc, rows)?.ok_or("no settings")?.copy(alloc)?)
+}
+
+/// The defaults, in which two attributes are set.
+fn settled(alloc: Global) -> Result<Attributes, Fail> {
+    let attributes = defaults(alloc)?;
+    let settings = two_settings(alloc)?;
+    Ok(attributes.changed(alloc, &settings)?)
+}
+
+#[test]
+fn settings_change_theirs_and_leave_the_rest(rt: HostRuntime) -> Result<(), Fail> {
+    let changed = settled(rt.alloc())?;
+    assert_eq!(rt;
+        numbers(&changed),
+        [1_000, 1_000, 10_000_000, 5_000, 5_242_880_000, 0, 3, 1]
+    );
+    assert_eq!(rt; flags(&changed), [true, true, false]);
+    assert_eq!(rt; owner(&changed), "shop");
+    Ok(())
+}
+
+#[test]
+fn a_topic_endpoint_has_no_partitions(rt: HostRuntime) -> Result<(), Fail> {
+    let settings = two_settings(rt.alloc())?;
+    let [queue, topic_endpoint] = EndpointKind::ALL;
+    assert_eq!(rt; settings.bad_attribute(queue), None);
+    assert_eq!(rt;
+        settings.bad_attribute(topic_endpoint),
+        Some(Attr::PartitionCount)
+    );
+    Ok(())
+}
+
+/// When a copy expires that is made at the moment.
+fn deadline(
+    alloc: Global,
+    respected: bool,
+    ttl: u64,
+    max_ttl: u64,
+    moment: u64,
+) -> Result<Option<u64>, Fail> {
+    let mut attributes = defaults(alloc)?;
+    attributes.change(Attr::RespectTtlEnabled, AttrValue::Flag(respected))?;
+    attributes.change(Attr::MaxTtl, AttrValue::Whole(max_ttl))?;
+    let moment = Moment::new(moment).ok_or("no moment")?;
+    Ok(attributes.deadline(ttl.min(4_294_967_295_000), moment))
 }
 
 #[test]
@@ -224,30 +370,23 @@ fn the_lesser_positive_bound_is_the_deadline(rt: HostRuntime) -> Result<(), Fail
             Some(9_011_494_222_035_991),
         ),
     ] {
-        let mut attributes = defaults(alloc)?;
-        attributes.change(Attr::RespectTtlEnabled, AttrValue::Flag(respected))?;
-        attributes.change(Attr::MaxTtl, AttrValue::Whole(max_ttl))?;
-        let moment = Moment::new(moment).ok_or("no moment")?;
-        assert!(rt; ttl <= 4_294_967_295_000);
-        assert_eq!(rt; attributes.deadline(ttl, moment), expected);
+        assert_eq!(rt; deadline(alloc, respected, ttl, max_ttl, moment)?, expected);
     }
     Ok(())
 }
 
+fn rejected(behavior: DiscardBehavior) -> [bool; 3] {
+    [
+        behavior.rejects(Why::Ingress),
+        behavior.rejects(Why::Size),
+        behavior.rejects(Why::Quota),
+    ]
+}
+
 #[test]
-fn which_reasons_reject_a_publish(rt: HostRuntime) -> Result<(), Fail> {
-    let alloc = rt.alloc();
-    for (word, expected) in [
-        ("always", [true, true, true]),
-        ("when-queue-enabled", [false, true, true]),
-        ("never", [false, false, false]),
-    ] {
-        let behavior = DiscardBehavior::named(word).ok_or("no behavior")?;
-        let mut attributes = defaults(alloc)?;
-        let value = AttrValue::Word(behavior.place());
-        attributes.change(Attr::RejectMsgToSenderOnDiscardBehavior, value)?;
-        let rejected = [Why::Ingress, Why::Size, Why::Quota].map(|why| attributes.rejects(why));
-        assert_eq!(rt; rejected, expected, "{word}");
-    }
-    Ok(())
+fn which_reasons_reject_a_publish(rt: HostRuntime) {
+    let [always, when_queue_enabled, never] = DiscardBehavior::ALL;
+    assert_eq!(rt; rejected(always), [true, true, true]);
+    assert_eq!(rt; rejected(when_queue_enabled), [false, true, true]);
+    assert_eq!(rt; rejected(never), [false, false, false]);
 }

@@ -1,4 +1,4 @@
-ghost use Rattle.std.specs.Prelude.{◌≡◌, ◌≤◌, ◌<◌, ◌+◌, ◌↔◌, ◌++◌, ◌∷◌, ◌&&◌, [], ℕ, List, not, true, false, bytes_eq, filter, length, OnOk, OnErr};
+ghost use Rattle.std.specs.Prelude.{◌≡◌, ◌≤◌, ◌<◌, ◌+◌, ◌↔◌, ◌++◌, ◌∷◌, ◌&&◌, [], ℕ, List, not, true, false, bytes_eq, filter, length, IfOk, OnOk, OnErr};
 ghost use Rattle.std.specs.List.{list_any};
 ghost use Rattle.sp_topic.specs.Matching.{excepts, selects};
 ghost use Rattle.sp_topic.specs.Subscriptions.{has_text, takes};
@@ -77,6 +77,15 @@ impl Subscriptions {
         self.rows.iter().any(|s| s.same(subscription))
     }
 
+    /// Second subscriptions with the same texts in the same order.
+    pub fn copy(&self, alloc: Global) -> Result<Subscriptions, AllocError>
+        ensures { IfOk result (λ s. s.items ≡ self.now.items) }
+    {
+        Ok(Subscriptions {
+            rows: copy_all(alloc, self.rows.as_slice())?,
+        })
+    }
+
     /// Makes room, so that the next `add` takes no memory. The subscriptions stay as they were.
     pub fn reserve(&mut self) -> Result<(), AllocError>
         ensures items { self.new.items ≡ self.old.items }
@@ -144,4 +153,14 @@ impl Subscriptions {
     {
         self.rows.iter().any(|s| s.excepts(topic))
     }
+}
+
+fn copy_all(alloc: Global, rows: &[Subscription]) -> Result<Vec<Subscription>, AllocError>
+    ensures { IfOk result (λ v. v.items ≡ rows.now) }
+{
+    let mut copies = Vec::new(alloc);
+    for subscription in rows {
+        copies.push(subscription.copy(alloc)?)?;
+    }
+    Ok(copies)
 }

@@ -1,15 +1,20 @@
 // Setting one attribute.
-ghost use Rattle.std.specs.Prelude.{◌≡◌, ◌↔◌, true, false, Some, None, IsErr, OnOk, OnErr};
+ghost use Rattle.std.specs.Prelude.{◌≡◌, ◌↔◌, true, false, Some, None, IfOk, IsErr, OnOk, OnErr};
 ghost use Rattle.sp_config.specs.Change.{with_value};
 ghost use Rattle.sp_config.specs.Ranges.{is_in_range};
+ghost use Rattle.sp_config.specs.Settings.{with_settings};
+ghost use Rattle.std.specs.List.{list_all};
 
 use crate::access_type::AccessType;
 use crate::attr::Attr;
 use crate::attributes::Attributes;
 use crate::discard::DiscardBehavior;
 use crate::permission::permission_at;
+use crate::setting::Setting;
+use crate::settings::Settings;
 use crate::value::AttrValue;
 use sp_base::name::Name;
+use std::alloc::{AllocError, Global};
 
 /// The value isn't one that the attribute may have.
 #[derive(Clone, Copy, Debug, PartialEq, Eq)]
@@ -28,6 +33,25 @@ impl Attributes {
             return Err(OutOfRange);
         }
         self.set(attr, value);
+        Ok(())
+    }
+
+    /// Second attributes, in which these have their values and all others are as they are here.
+    pub fn changed(&self, alloc: Global, settings: &Settings) -> Result<Attributes, AllocError>
+        ensures { IfOk result (λ a. a ≡ with_settings settings.now self.now) }
+    {
+        let mut changed = self.copy(alloc)?;
+        changed.set_all(alloc, settings.as_slice())?;
+        Ok(changed)
+    }
+
+    fn set_all(&mut self, alloc: Global, settings: &[Setting]) -> Result<(), AllocError>
+        requires { list_all (λ s. is_in_range s.attr s.value) settings.now ≡ true }
+        ensures { OnOk result (self.new ≡ with_settings settings.now self.old) }
+    {
+        for setting in settings {
+            self.set(setting.attr, setting.value.copy(alloc)?);
+        }
         Ok(())
     }
 
