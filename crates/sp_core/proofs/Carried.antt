@@ -8,7 +8,7 @@ use Rattle.sp_ledger.proofs.Soundness.{step_sound}
 use Rattle.sp_core.specs.Decided.{ReadyState, IsPrepared, CarriesOut}
 use Rattle.sp_core.specs.Plan.{unit_of, carried_out, outcome_of}
 use Rattle.sp_core.specs.declared.plan.Plan.{Plan}
-use Rattle.sp_core.specs.declared.plan.Plan.TheVariants.{Provision, Publish, Bind, Unbind, Pull, IdlePull, Settle}
+use Rattle.sp_core.specs.declared.plan.Plan.TheVariants.{IdlePull}
 use Rattle.sp_event.specs.declared.answer.Reply.{Reply}
 use Rattle.sp_event.specs.declared.request.Event.{Event}
 use Rattle.sp_ledger.specs.Step.{unit_step}
@@ -31,13 +31,8 @@ own seen kept e s = subst (λ core. Stands core (ledger_of kept)) e (record {
 
 -- what is planned leaves a sound ledger
 planned_sound : (L : Ledger) → IsSound L → (moment : ℕ) (caller : List ℕ) (unit : List Event) (plan : Plan) (told : List Reply) → unit_step moment caller unit L ≡ outcome_of moment plan told L → IsSound (carried_out moment plan L)
-planned_sound L s moment caller unit (Provision row) told e = step_sound L s moment caller unit (carried_out moment (Provision row) L) told e
-planned_sound L s moment caller unit (Publish row copy) told e = step_sound L s moment caller unit (carried_out moment (Publish row copy) L) told e
-planned_sound L s moment caller unit (Bind endpoint row) told e = step_sound L s moment caller unit (carried_out moment (Bind endpoint row) L) told e
-planned_sound L s moment caller unit (Unbind flow copies) told e = step_sound L s moment caller unit (carried_out moment (Unbind flow copies) L) told e
-planned_sound L s moment caller unit (Pull flow count copies) told e = step_sound L s moment caller unit (carried_out moment (Pull flow count copies) L) told e
 planned_sound L s moment caller unit (IdlePull flow count) told e = s
-planned_sound L s moment caller unit (Settle flow copy outcome) told e = step_sound L s moment caller unit (carried_out moment (Settle flow copy outcome) L) told e
+planned_sound L s moment caller unit plan told e = step_sound L s moment caller unit (carried_out moment plan L) told e
 
 -- what was prepared leaves a sound ledger
 pub prepared_sound : (core : CoreState) (ready : ReadyState) → IsPrepared core ready → (L : Ledger) → Stands core L → IsSound (carried_out ready.moment ready.plan L)
@@ -45,13 +40,8 @@ prepared_sound core ready p L s = planned_sound L s.sound ready.moment ready.cal
 
 -- the replies and the ledger of a plan are those of its outcome
 pub carries_out : (moment : ℕ) (plan : Plan) (told given : List Reply) (L : Ledger) (core : CoreState) → given ≡ told → Stands core (carried_out moment plan L) → CarriesOut (outcome_of moment plan told L) L core given
-carries_out moment (Provision row) told given L core e s = (e, s)
-carries_out moment (Publish row copy) told given L core e s = (e, s)
-carries_out moment (Bind endpoint row) told given L core e s = (e, s)
-carries_out moment (Unbind flow copies) told given L core e s = (e, s)
-carries_out moment (Pull flow count copies) told given L core e s = (e, s)
 carries_out moment (IdlePull flow count) told given L core e s = (e, s)
-carries_out moment (Settle flow copy outcome) told given L core e s = (e, s)
+carries_out moment plan told given L core e s = (e, s)
 
 -- the one ledger that a core stands for
 pub ledger_is : (core : CoreState) (L : Ledger) → Stands core L → ledger_of core ≡ L

@@ -1,4 +1,10 @@
 pub mod Carried
+pub mod Enumerated
 pub mod Found
 pub mod Handed
+pub mod Placed
 pub mod Prepared
+pub mod PreparedEndpoints
+pub mod PreparedSpread
+pub mod Replaced
+pub mod Spread

@@ -1,14 +1,10 @@
 -- What was decided is prepared.
-use Rattle.std.proofs.Common.{◌≡◌, ◌≤◌, ◌<◌, ℕ, ◌+◌, max, Bool, true, false, not, List, [], ◌∷◌, length, Option, Some, None, refl, sym, ap, subst, ◌∙◌, arith}
+use Rattle.std.proofs.Common.{◌≡◌, ◌<◌, ℕ, Bool, true, false, not, List, [], ◌∷◌, length, Option, Some, None, refl, sym, ap, subst, ◌∙◌, arith}
 use Rattle.std.specs.Prelude.{All, AllPairs, is_some, option_map}
-use Rattle.std.proofs.lemmas.Bool.{ltb-false}
-use Rattle.sp_message.specs.declared.message.Message.{Message}
-use Rattle.sp_message.specs.Size.{size_of, dest_bytes}
-use Rattle.sp_copies.specs.declared.closed.Fate.TheVariants as fates
-use Rattle.sp_copies.specs.declared.made.NewCopy.{NewCopy}
-use Rattle.sp_copies.specs.declared.made.Origin.TheVariants as origins
+use Rattle.std.specs.Prelude.{IfErr, Result}
+use Rattle.std.proofs.lemmas.Result.{IfErr-weaker}
 use Rattle.sp_copies.specs.declared.closed.Fate.{Fate}
-use Rattle.sp_copies.specs.History.{held_by, is_free, is_held, is_held_by, used_bytes}
+use Rattle.sp_copies.specs.History.{held_by, is_free, is_held, is_held_by}
 use Rattle.sp_copies.specs.declared.made.MadeCopy.{MadeCopy}
 use Rattle.sp_event.specs.declared.answer.CopyFate.{CopyFate}
 use Rattle.sp_event.specs.declared.answer.Delivery.{Delivery}
@@ -17,23 +13,24 @@ use Rattle.sp_event.specs.declared.request.Outcome as settling
 use Rattle.sp_event.specs.declared.answer.Reply.TheVariants as replies
 use Rattle.sp_base.specs.declared.refusal.Refusal.{Refusal}
 use Rattle.sp_base.specs.declared.refusal.Refusal.TheVariants.{UnknownFlow}
+use Rattle.sp_event.specs.declared.request.Event.{Event}
 use Rattle.sp_event.specs.declared.request.Event.TheVariants as events
 use Rattle.sp_ledger.specs.Checks.{first_refusal}
 use Rattle.sp_ledger.specs.Step.{unit_step}
 use Rattle.sp_ledger.specs.Ledger as ledger
-use Rattle.sp_ledger.specs.Ledger.{Ledger, flow_of, named}
+use Rattle.sp_ledger.specs.Ledger.{Ledger, flow_of}
 use Rattle.sp_ledger.specs.Pull.{deliveries, handed_out, pull_by, pull_checks, pull_of, pulled}
 use Rattle.sp_ledger.specs.Settle.{settle_by, settle_checks, settled}
 use Rattle.sp_ledger.specs.Unbind.{unbind_by, unbind_checks, unbound}
 use Rattle.sp_ledger.specs.Outcome.{accepted, decided, idle, refused}
-use Rattle.sp_ledger.specs.Provision.{provision_checks, provisioned}
-use Rattle.sp_ledger.specs.Publish.{publish_checks, published, publish_to, default_quota}
 use Rattle.sp_ledger.proofs.Decisions.{passes}
 use Rattle.sp_ledger.proofs.HandedOut.{pulled_free, pulled_rise}
 use Rattle.sp_ledger.proofs.Soundness.{held_is_spooled}
-use Rattle.sp_core.specs.declared.rows.Published.{Published}
+use Rattle.sp_core.specs.declared.errors.PrepareError.{PrepareError}
+use Rattle.sp_core.specs.declared.errors.PrepareError.TheVariants.{Refused, Memory}
 use Rattle.sp_core.specs.declared.plan.Plan.TheVariants.{Provision, Publish, Bind, Unbind, Pull, IdlePull, Settle}
-use Rattle.sp_core.specs.Decided.{IsPrepared, ReadyState}
+use Rattle.sp_core.specs.Decided.{IsPrepared, IsRefused, ReadyState}
+use Rattle.sp_core.specs.Errors.{OnRefused}
 use Rattle.sp_core.specs.Plan.{carried_out, pulled_of}
 use Rattle.sp_core.specs.Stands.{Stands, IsRoomier}
 use Rattle.sp_core.specs.State.{CoreState}
@@ -49,51 +46,18 @@ still_prepared old new ready r p = record {
 }
   where
     more_room : (plan : Rattle.sp_core.specs.declared.plan.Plan.Plan) → Rattle.sp_core.specs.Plan.HasRoom old plan → Rattle.sp_core.specs.Plan.HasRoom new plan
-    more_room (Provision row) h = omega (arith, h, r.endpoints)
-    more_room (Publish row copy) h = (omega (arith, h.0, r.messages), omega (arith, h.1, r.copies))
-    more_room (Bind endpoint row) h = omega (arith, h, r.flows)
-    more_room (Unbind flow copies) h = tt
-    more_room (Pull flow count copies) h = tt
-    more_room (IdlePull flow count) h = tt
-    more_room (Settle flow copy outcome) h = tt
+    more_room (Provision row attributes) h = omega (arith, h, r.endpoints)
+    more_room (Publish row copies) h = (omega (arith, h.0, r.messages), omega (arith, h.1, r.copies))
+    more_room (Bind endpoint row copies) h = omega (arith, h, r.flows)
+    more_room plan h = tt
 
-pub provision_prepared : (old new : CoreState) (moment number : ℕ) (caller name : List ℕ) → IsRoomier old new →
-    ((L : Ledger) → Stands old L → first_refusal (provision_checks L name) ≡ None) →
-    ((L : Ledger) → Stands new L → number ≡ L.next.endpoint) →
-    0 < new.endpoint_room →
-    IsPrepared new (record { moment = moment; caller = caller; plan = Provision (record { number = number; name = name }); replies = replies.Provision name number ∷ [] })
-provision_prepared old new moment number caller name r passed numbered room = record {
-  decided = λ L s. ap (λ refusal. decided refusal (provisioned moment name L)) (passed L (r.back L s))
-      ∙ ap (λ n. accepted (carried_out moment (Provision (record { number = n; name = name })) L) (replies.Provision name n ∷ [])) (sym (numbered L s));
-  room = room;
-  fits = λ L s. tt;
-  count = refl;
-}
-
-module _ (number at copy : ℕ) (m : Message) (queue : ledger.Endpoint) where
-  abbrev new_row : Published
-  new_row = record { number = number; message = m; moment = at }
-
-  abbrev new_copy : NewCopy
-  new_copy = record { endpoint = queue.number; message = number; size = size_of m; origin = origins.Published; deadline = None; partition = 0 }
-
-pub publish_prepared : (old new : CoreState) (moment number at copy : ℕ) (caller : List ℕ) (m : Message) (queue : ledger.Endpoint) → IsRoomier old new →
-    ((L : Ledger) → Stands old L → named (dest_bytes m.dest) L.endpoints ≡ Some queue) →
-    ((L : Ledger) → Stands old L → first_refusal (publish_checks L m queue) ≡ None) →
-    ((L : Ledger) → Stands new L → number ≡ L.next.message) →
-    ((L : Ledger) → Stands new L → at ≡ max L.now moment) →
-    ((L : Ledger) → Stands new L → copy ≡ L.copies.next) →
-    0 < new.message_room → 0 < new.copies.spare →
-    IsPrepared new (record { moment = moment; caller = caller; plan = Publish (new_row number at copy m queue) (new_copy number at copy m queue); replies = replies.Publish number (record { copy = copy; endpoint = queue.name; fate = fates.Spooled } ∷ []) ∷ [] })
-publish_prepared old new moment number at copy caller m queue r found passed numbered later copied messages copies = record {
-  decided = λ L s.
-      ap (publish_to moment m L) (found L (r.back L s))
-      ∙ (ap (λ refusal. decided refusal (published moment m queue L)) (passed L (r.back L s))
-      ∙ sym (λ i. accepted (carried_out moment (Publish (new_row (numbered L s i) (later L s i) (copied L s i) m queue) (new_copy (numbered L s i) (later L s i) (copied L s i) m queue)) L) (replies.Publish (numbered L s i) (record { copy = copied L s i; endpoint = queue.name; fate = fates.Spooled } ∷ []) ∷ [])));
-  room = (messages, copies);
-  fits = λ L s. let p = passes (publish_checks L m queue) (passed L (r.back L s)) in let fits : used_bytes L.copies queue.number + size_of m ≤ default_quota = ltb-false _ _ p.0 in omega (arith, fits);
-  count = refl;
-}
+-- and what is refused on the core with the room was refused before
+pub refused_before : (old new : CoreState) (moment : ℕ) (caller : List ℕ) (event : Event) (result : Result ReadyState PrepareError) → IsRoomier old new → IfErr result (λ e. OnRefused e (IsRefused new moment caller event)) → IfErr result (λ e. OnRefused e (IsRefused old moment caller event))
+refused_before old new moment caller event result r h = IfErr-weaker result (λ e. OnRefused e (IsRefused new moment caller event)) (λ e. OnRefused e (IsRefused old moment caller event)) one h
+  where
+    one : (e : PrepareError) → OnRefused e (IsRefused new moment caller event) → OnRefused e (IsRefused old moment caller event)
+    one (Refused index refusal) k = (k.0, λ L s. k.1 L (r.forth L s))
+    one Memory k = tt
 
 -- what is decided of a flow that is there doesn't ask more of it
 unbind_there : (moment flow : ℕ) (L : Ledger) (found : Option ledger.Flow) → is_some found ≡ true → unbind_by moment flow L found ≡ decided (first_refusal (unbind_checks L)) (unbound moment flow L)

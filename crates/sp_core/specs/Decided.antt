@@ -1,6 +1,8 @@
 -- A unit that was decided.
-use Rattle.std.specs.Prelude.{◌≡◌, ℕ, List, length}
+use Rattle.std.specs.Prelude.{◌≡◌, ℕ, List, [], ◌∷◌, length}
+use Rattle.sp_base.specs.declared.refusal.Refusal.{Refusal}
 use Rattle.sp_event.specs.declared.answer.Reply.{Reply}
+use Rattle.sp_event.specs.declared.request.Event.{Event}
 use Rattle.sp_ledger.specs.Ledger.{Ledger}
 use Rattle.sp_ledger.specs.Outcome.{Outcome, refused, idle, accepted}
 use Rattle.sp_ledger.specs.Step.{unit_step}
@@ -23,6 +25,14 @@ pub record IsPrepared (core : CoreState) (ready : ReadyState) : Type 0 where
   pub fits : (L : Ledger) → Stands core L → Fits ready.plan L
   -- one reply for each event
   pub count : length ready.replies ≡ length (unit_of ready.plan)
+
+-- it is this one event of a caller at a moment
+abbrev pub IsOf : ℕ → List ℕ → Event → ReadyState → Type 0
+IsOf moment caller event ready = (ready.moment ≡ moment) × (ready.caller ≡ caller) × (unit_of ready.plan ≡ event ∷ [])
+
+-- on each ledger that the core stands for this one event of a caller at a moment is refused so
+abbrev pub IsRefused : CoreState → ℕ → List ℕ → Event → Refusal → Type 0
+IsRefused core moment caller event refusal = (L : Ledger) → Stands core L → unit_step moment caller (event ∷ []) L ≡ refused refusal
 
 -- the replies are those of the outcome, and the core stands for the ledger after it
 abbrev pub CarriesOut : Outcome → Ledger → CoreState → List Reply → Type 0

@@ -5,3 +5,4 @@ pub mod Plan
 pub mod Rows
 pub mod Stands
 pub mod State
+pub mod Targets

@@ -2,12 +2,15 @@
 //! carries it out, and it answers queries.
 #![tactic(auto)]
 
+mod endpoint_rows;
 pub mod errors;
 mod flow_rows;
 mod look;
 pub mod plan;
 pub mod ready;
+mod refusals;
 pub mod rows;
 pub mod state;
+pub mod targets;
 #[cfg(test)]
 mod tests;

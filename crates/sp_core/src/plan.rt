@@ -1,23 +1,46 @@
 use crate::rows::{Endpoint, Flow, Published};
 use sp_base::items::Items;
 use sp_base::name::Name;
-use sp_base::number::{CopyNo, FlowNo};
+use sp_base::number::{CopyNo, EndpointNo, FlowNo};
+use sp_config::settings::Settings;
 use sp_copies::made::{MadeCopy, NewCopy};
 use sp_event::request::Outcome;
+use sp_topic::subscription::Subscription;
 
-/// What a unit does to the tables.
+/// What a unit does to the tables. A row of an endpoint that is there stands in its place.
 #[derive(Debug, Drop)]
 pub enum Plan {
     Provision {
         row: Endpoint,
+        attributes: Settings,
     },
+    Deprovision {
+        name: Name,
+        number: EndpointNo,
+    },
+    Change {
+        row: Endpoint,
+        attributes: Settings,
+    },
+    Subscribe {
+        row: Endpoint,
+        subscription: Subscription,
+    },
+    Unsubscribe {
+        row: Endpoint,
+        subscription: Subscription,
+    },
+    /// The copies are those that are made, in the byte order of their endpoints' names.
     Publish {
         row: Published,
-        copy: NewCopy,
+        copies: Items<NewCopy>,
     },
+    /// The endpoint has the topic that it is bound with, and the copies are those that another
+    /// topic discards, in order of number.
     Bind {
-        endpoint: Name,
+        endpoint: Endpoint,
         row: Flow,
+        copies: Items<CopyNo>,
     },
     /// The copies are those that the flow holds, in order of number.
     Unbind {

@@ -1,24 +1,27 @@
-ghost use Rattle.std.specs.Prelude.{◌≡◌, ◌≤◌, ◌<◌, ◌+◌, ◌-◌, ◌^◌, ℕ, ◌∷◌, [], IfOk, OnOk, OnErr, is_some, Some, length, max, IfErr};
+ghost use Rattle.std.specs.Prelude.{◌≡◌, ◌≤◌, ◌+◌, ◌-◌, ◌^◌, ◌∷◌, [], IfOk, IfErr, IfSome, is_some, length, max};
 ghost use Rattle.std.specs.Option.{option_copied, option_map};
-ghost use Rattle.sp_copies.specs.History.{used_bytes};
-ghost use Rattle.sp_core.specs.Decided.{IsPrepared, ReadyState};
-ghost use Rattle.sp_core.specs.Errors.{OnRefused, OnUnanswered};
+ghost use Rattle.sp_core.specs.Decided.{IsOf, IsPrepared, IsRefused, ReadyState};
+ghost use Rattle.sp_core.specs.Errors.{OnRefused};
 ghost use Rattle.sp_core.specs.Plan.{unit_of};
 ghost use Rattle.sp_core.specs.Rows.{endpoint_row, flow_row, empty_at};
 ghost use Rattle.sp_core.specs.Stands.{Stands, IsRoomier};
-ghost use Rattle.sp_ledger.specs.Ledger.{Ledger, flow_of, named, used_of};
+ghost use Rattle.sp_ledger.specs.Checks.{first_refusal, is_spent};
+ghost use Rattle.sp_ledger.specs.Ledger.{Ledger, flow_of, named, queue_named, used_of};
 ghost use Rattle.sp_ledger.specs.Outcome.{refused};
 ghost use Rattle.sp_ledger.specs.Step.{unit_step};
 
+use crate::endpoint_rows::EndpointRows;
 use crate::errors::PrepareError;
 use crate::flow_rows::FlowRows;
-use crate::look::{find_endpoint, find_flow};
+use crate::look::{find_endpoint, find_flow, find_queue};
 use crate::ready::Ready;
+use crate::refusals::SPENT;
 use crate::rows::{Endpoint, Flow, Next, Numbers, Published};
 use sp_base::failure::Memory;
 use sp_base::moment::Moment;
 use sp_base::name::Name;
-use sp_base::number::{EndpointNo, FlowNo};
+use sp_base::number::FlowNo;
+use sp_base::refusal::{Kind, Refusal};
 use sp_base::rows::Rows;
 use sp_copies::copies::Copies;
 use sp_event::answer::Reply;
@@ -28,17 +31,20 @@ use std::marker::Model;
 
 mod apply;
 mod bind;
+mod change;
+mod deprovision;
 mod provision;
 mod publish;
 mod pull;
 mod query;
 mod settle;
+mod subscribe;
 mod unbind;
 
 /// The spool's state.
 #[derive(Drop)]
 pub struct Core {
-    endpoints: Rows<Endpoint>,
+    endpoints: EndpointRows,
     messages: Rows<Published>,
     copies: Copies,
     flows: FlowRows,
@@ -67,7 +73,7 @@ impl Core {
         ensures { IfOk result (λ core. Stands core (empty_at start)) }
     {
         Ok(Core {
-            endpoints: Rows::new(alloc),
+            endpoints: EndpointRows::new(alloc),
             messages: Rows::new(alloc),
             copies: Copies::new(alloc, start.copy),
             flows: FlowRows::new(alloc),
@@ -101,7 +107,7 @@ impl Core {
         ensures refused { IfErr result (λ e. OnRefused e (λ refusal.
             (L : Ledger) → Stands self.old L → unit_step now from.now unit.now L ≡ refused refusal)) }
     {
-        self.prepare_event(alloc, now, from, unit)
+        self.prepare_event(alloc, now, from, &unit[0])
     }
 
     fn prepare_event(
@@ -109,19 +115,36 @@ impl Core {
         alloc: Global,
         now: Moment,
         from: &Name,
-        unit: &[Event],
+        event: &Event,
     ) -> Result<Ready, PrepareError>
-        requires { length unit.now ≡ 1 }
         ensures same { IsRoomier self.old self.new }
-        ensures ready { IfOk result (λ r. IsPrepared self.new r) }
-        ensures request { IfOk result (λ r. (r.moment ≡ now) × (r.caller ≡ from.now) × (unit_of r.plan ≡ unit.now)) }
-        ensures refused { IfErr result (λ e. OnRefused e (λ refusal.
-            (L : Ledger) → Stands self.old L → unit_step now from.now unit.now L ≡ refused refusal)) }
+        ensures ready { IfOk result (IsPrepared self.new) }
+        ensures request { IfOk result (IsOf now from.now event.now) }
+        ensures refused { IfErr result (λ e. OnRefused e (IsRefused self.old now from.now event.now)) }
     {
-        match &unit[0] {
-            Event::Provision { endpoint } => self.prepare_provision(alloc, now, from, endpoint),
+        match event {
+            Event::Provision {
+                endpoint,
+                kind,
+                attributes,
+            } => self.prepare_provision(alloc, now, from, endpoint, *kind, attributes),
+            Event::Deprovision { endpoint } => self.prepare_deprovision(alloc, now, from, endpoint),
+            Event::Change {
+                endpoint,
+                attributes,
+            } => self.prepare_change(alloc, now, from, endpoint, attributes),
+            Event::Subscribe {
+                endpoint,
+                subscription,
+            } => self.prepare_subscribe(alloc, now, from, endpoint, subscription),
+            Event::Unsubscribe {
+                endpoint,
+                subscription,
+            } => self.prepare_unsubscribe(alloc, now, from, endpoint, subscription),
             Event::Publish { message } => self.prepare_publish(alloc, now, from, message),
-            Event::Bind { endpoint } => self.prepare_bind(alloc, now, from, endpoint),
+            Event::Bind { endpoint, topic } => {
+                self.prepare_bind(alloc, now, from, endpoint, topic)
+            }
             Event::Unbind { flow } => self.prepare_unbind(alloc, now, from, *flow),
             Event::Pull { flow, count } => self.prepare_pull(alloc, now, from, *flow, *count),
             Event::Settle {
@@ -148,27 +171,6 @@ impl Core {
         Some(self.copies.used(found.number))
     }
 
-    // A copy of the endpoint of a name.
-    fn endpoint_of(&self, alloc: Global, name: &Name) -> Result<Option<Endpoint>, AllocError>
-        ensures { IfOk result (λ found. (L : Ledger) → Stands self.now L → option_map endpoint_row found ≡ named name.now L.endpoints) }
-    {
-        match self.find(name) {
-            None => Ok(None),
-            Some(found) => Ok(Some(Endpoint {
-                number: found.number,
-                name: found.name.copy(alloc)?,
-            })),
-        }
-    }
-
-    // The endpoint to which a flow of a caller is bound.
-    fn endpoint_bound(&self, caller: &Name, flow: FlowNo) -> Option<EndpointNo>
-        ensures { (L : Ledger) → Stands self.now L → result ≡ option_map (λ f. f.endpoint) (flow_of L.flows caller.now flow) }
-    {
-        let found = self.find_bound(caller, flow)?;
-        Some(found.endpoint)
-    }
-
     fn find_bound(&self, caller: &Name, flow: FlowNo) -> Option<&Flow>
         ensures { (L : Ledger) → Stands self.now L → option_map flow_row (option_copied result) ≡ flow_of L.flows caller.now flow }
     {
@@ -182,10 +184,30 @@ impl Core {
         self.clock.max(moment)
     }
 
+    // The endpoint of a name.
     fn find(&self, name: &Name) -> Option<&Endpoint>
-        ensures { (L : Ledger) → Stands self.now L → option_map endpoint_row (option_copied result) ≡ named name.now L.endpoints }
+        ensures found { (L : Ledger) → Stands self.now L → option_map endpoint_row (option_copied result) ≡ named name.now L.endpoints }
+        ensures called { IfSome result (λ e. e.now.name ≡ name.now) }
     {
         find_endpoint(self.endpoints.as_slice(), name)
+    }
+
+    // The queue of a name.
+    fn find_queue(&self, name: &Name) -> Option<&Endpoint>
+        ensures found { (L : Ledger) → Stands self.now L → option_map endpoint_row (option_copied result) ≡ queue_named name.now L.endpoints }
+        ensures called { IfSome result (λ e. e.now.name ≡ name.now) }
+    {
+        find_queue(self.endpoints.as_slice(), name)
+    }
+
+    // Whether the numbers of units are drawn, the last rule that an event may break.
+    fn unit_refusal(&self) -> Option<Refusal>
+        ensures { (L : Ledger) → Stands self.now L → result ≡ first_refusal (is_spent L.next.unit Kind.Unit ∷ []) }
+    {
+        if self.next_unit() >= SPENT {
+            return Some(Refusal::IdsSpent { kind: Kind::Unit });
+        }
+        None
     }
 
     fn next_unit(&self) -> u64

@@ -61,6 +61,18 @@ pub enum Reply {
         endpoint: Name,
         number: EndpointNo,
     },
+    Deprovision {
+        endpoint: Name,
+    },
+    Change {
+        endpoint: Name,
+    },
+    Subscribe {
+        endpoint: Name,
+    },
+    Unsubscribe {
+        endpoint: Name,
+    },
     /// The copies stand in order of their numbers.
     Publish {
         message: MessageNo,

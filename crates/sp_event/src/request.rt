@@ -1,6 +1,9 @@
 use sp_base::name::Name;
 use sp_base::number::{CopyNo, FlowNo};
+use sp_config::kind::EndpointKind;
+use sp_config::settings::Settings;
 use sp_message::message::Message;
+use sp_topic::subscription::Subscription;
 
 /// How a flow settles a copy that it holds.
 #[derive(Clone, Copy, Debug, PartialEq, Eq)]
@@ -12,17 +15,41 @@ pub enum Outcome {
 /// A request that may change the ledger.
 #[derive(Debug, Drop)]
 pub enum Event {
-    /// A queue of this name comes.
+    /// An endpoint of this name and kind comes. The caller owns it, and its attributes are the
+    /// defaults but for those that are given.
     Provision {
         endpoint: Name,
+        kind: EndpointKind,
+        attributes: Settings,
+    },
+    /// An endpoint goes. No flow may be bound to it, and no copy may be spooled there.
+    Deprovision {
+        endpoint: Name,
+    },
+    /// Some attributes of an endpoint get other values.
+    Change {
+        endpoint: Name,
+        attributes: Settings,
+    },
+    /// A queue gets a subscription that it doesn't have.
+    Subscribe {
+        endpoint: Name,
+        subscription: Subscription,
+    },
+    /// A queue loses a subscription that it has.
+    Unsubscribe {
+        endpoint: Name,
+        subscription: Subscription,
     },
     /// A message is published; a copy is made for each endpoint that takes it.
     Publish {
         message: Message,
     },
-    /// A new flow of the caller is bound to an endpoint.
+    /// A new flow of the caller is bound to an endpoint. A topic endpoint is bound with the topic
+    /// that it takes messages on from now on, a queue without one.
     Bind {
         endpoint: Name,
+        topic: Option<Subscription>,
     },
     /// A flow of the caller gives back what it holds, and goes.
     Unbind {

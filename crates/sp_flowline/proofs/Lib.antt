@@ -1,3 +1,4 @@
+pub mod AttributeLemmas
 pub mod Keys
 pub mod PayloadLemmas
 pub mod Whole

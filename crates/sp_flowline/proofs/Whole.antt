@@ -10,7 +10,7 @@ use Rattle.serde_json.specs.View.{items_of}
 use Rattle.serde_json.specs.Written.{has_float, items_have_float, members_have_float}
 use Rattle.sp_base.specs.declared.refusal.Refusal.{Refusal}
 use Rattle.sp_base.specs.declared.refusal.Refusal.TheVariants.{BadRequest, DirectMode, BadTopic, BadSubscription, BadSelector, BadAttribute, UnknownEndpoint, EndpointExists, EndpointLimit, NoAccess, InUse, SubscriptionExists, SubscriptionLimit, UnknownSubscription, IngressDisabled, EgressDisabled, MessageTooLarge, QuotaExceeded, VpnQuotaExceeded, BindLimit, UnknownFlow, NotHeld, ReplayActive, NoReplay, LogDisabled, NotInLog, IdsSpent}
-use Rattle.sp_message.specs.declared.message.Dest.TheVariants.{Queue}
+use Rattle.sp_message.specs.declared.message.Dest.TheVariants.{Topic, Queue}
 use Rattle.sp_message.specs.declared.message.Dest.{Dest}
 use Rattle.sp_copies.specs.declared.closed.CauseCount.{CauseCount}
 use Rattle.sp_copies.specs.declared.closed.Fate.{Fate}
@@ -25,7 +25,7 @@ use Rattle.sp_event.specs.declared.answer.Answered.{Answered}
 use Rattle.sp_event.specs.declared.answer.Answered.TheVariants.{Gave, Refused, Memory, Disk, Full}
 use Rattle.sp_flowline.specs.Answers.{answer_data}
 use Rattle.sp_flowline.specs.Fates.{cause_word, fate_word, with_end, with_fate}
-use Rattle.sp_flowline.specs.FlowReplies.{destination, fate_data, delivery_data}
+use Rattle.sp_flowline.specs.FlowReplies.{with_destination, fate_data, delivery_data}
 use Rattle.sp_flowline.specs.Payloads.{base64_of, with_payload}
 use Rattle.sp_flowline.specs.Refusals.{refusal_data, whole}
 use Rattle.sp_flowline.specs.Replies.{told_data, with_cause, with_details, reply_data}
@@ -80,15 +80,17 @@ paid bytes ms h = shown (is_utf8 bytes)
     shown true = put_whole (codes "payload") (string bytes) ms refl h
     shown false = put_whole (codes "payload64") (string (base64_of bytes)) ms refl h
 
-sent : (dest : Dest) → members_have_float (destination dest) ≡ false
-sent (Queue name) = refl
+sent : (dest : Dest) (ms : Members) → members_have_float ms ≡ false → members_have_float (with_destination dest ms) ≡ false
+sent (Topic topic) ms h = put_whole (codes "topic") (string topic) ms refl h
+sent (Queue name) ms h = put_whole (codes "queue") (string name) ms refl h
 
 delivered : (d : Delivery) → has_float (delivery_data d) ≡ false
-delivered d = paid d.payload
-    (member (codes "attempt") (whole d.attempt)
+delivered d =
+    let ms : Members = member (codes "attempt") (whole d.attempt)
     (member (codes "copy") (whole d.copy)
     (member (codes "message") (whole d.message)
-    (member (codes "properties") (object no_members) (destination d.dest))))) (sent d.dest)
+    (member (codes "properties") (object no_members) no_members))) in
+    paid d.payload (with_destination d.dest ms) (sent d.dest ms refl)
 
 deliveries : (ds : List Delivery) → items_have_float (items_of (map delivery_data ds)) ≡ false
 deliveries [] = refl
@@ -110,6 +112,10 @@ detailed (Some d) ms h = third (second (put_whole (codes "message") (whole d.mes
 
 reply : (r : Reply) (unit : ℕ) → has_float (reply_data r unit) ≡ false
 reply (replies.Provision endpoint n) unit = refl
+reply (replies.Deprovision endpoint) unit = refl
+reply (replies.Change endpoint) unit = refl
+reply (replies.Subscribe endpoint) unit = refl
+reply (replies.Unsubscribe endpoint) unit = refl
 reply (replies.Publish message cs) unit = rw (copies cs)
 reply (replies.Bind endpoint flow discarded) unit = refl
 reply (replies.Unbind flow cs returned) unit = rw (closed cs)

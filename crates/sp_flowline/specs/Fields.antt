@@ -7,14 +7,16 @@ use Rattle.sp_base.specs.Name.{is_name}
 use Rattle.sp_event.specs.declared.request.Outcome.{Outcome}
 use Rattle.sp_event.specs.declared.request.Outcome.TheVariants.{Accepted}
 use Rattle.sp_flowline.specs.declared.op.Op.{Op}
+use Rattle.sp_flowline.specs.declared.op.Op.TheVariants.{Publish}
 use Rattle.sp_flowline.specs.Op.{required_fields, has_field, op_named}
 
 -- whether there is a field of this name
 abbrev pub has_key : List ℕ → Data → Bool
 has_key key d = is_some (get key d)
 
--- whether the fields that an operation requires are there
+-- whether the fields that an operation requires are there: for a publish, one of its destinations
 abbrev pub has_required : Op → Data → Bool
+has_required Publish d = has_key (codes "topic") d || has_key (codes "queue") d
 has_required op d = list_all (λ key. has_key key d) (required_fields op)
 
 -- whether there is a field that the operation doesn't have
@@ -33,6 +35,10 @@ another_field op (object ms) = another_member op ms
 -- whether the two forms of a payload are both there, which exclude each other
 abbrev pub has_two_payloads : Data → Bool
 has_two_payloads d = has_key (codes "payload") d && has_key (codes "payload64") d
+
+-- whether both destinations are there, which exclude each other
+abbrev pub has_two_destinations : Data → Bool
+has_two_destinations d = has_key (codes "topic") d && has_key (codes "queue") d
 
 -- the text in a field
 abbrev pub text_at : List ℕ → Data → Option (List ℕ)

@@ -1,10 +1,10 @@
 -- What the replies of flows show, as JSON values. The keys stand in the order of their bytes.
 use Rattle.std.specs.Prelude.{ℕ, List, map, codes}
 use Rattle.serde_json.specs.View.{items_of}
-use Rattle.serde_json.specs.Data.{Data, string, object, array, Members, member, no_members}
+use Rattle.serde_json.specs.Data.{Data, string, object, array, Members, member, no_members, put}
 use Rattle.sp_copies.specs.declared.closed.Fate.{Fate}
 use Rattle.sp_message.specs.declared.message.Dest.{Dest}
-use Rattle.sp_message.specs.declared.message.Dest.TheVariants.{Queue}
+use Rattle.sp_message.specs.declared.message.Dest.TheVariants.{Topic, Queue}
 use Rattle.sp_event.specs.declared.answer.CopyFate.{CopyFate}
 use Rattle.sp_event.specs.declared.answer.Delivery.{Delivery}
 use Rattle.sp_flowline.specs.Fates.{with_fate}
@@ -33,17 +33,18 @@ unbind_data flow closed returned unit = object
     (member (codes "returned") (whole returned)
     (member (codes "unit") (whole unit) no_members)))))
 
--- where a message was sent to
-abbrev pub destination : Dest → Members
-destination (Queue name) = member (codes "queue") (string name) no_members
+-- fields with where a message was sent to
+abbrev pub with_destination : Dest → Members → Members
+with_destination (Topic topic) ms = put (codes "topic") (string topic) ms
+with_destination (Queue name) ms = put (codes "queue") (string name) ms
 
 -- a copy as it is handed out; messages have no properties yet
 abbrev pub delivery_data : Delivery → Data
-delivery_data d = object (with_payload d.payload
+delivery_data d = object (with_payload d.payload (with_destination d.dest
     (member (codes "attempt") (whole d.attempt)
     (member (codes "copy") (whole d.copy)
     (member (codes "message") (whole d.message)
-    (member (codes "properties") (object no_members) (destination d.dest))))))
+    (member (codes "properties") (object no_members) no_members))))))
 
 -- the copies that a flow is handed out
 abbrev pub pull_data : ℕ → List Delivery → ℕ → Data

@@ -1,12 +1,16 @@
 pub mod Answers
 pub mod Asks
+pub mod Attributes
+pub mod EndpointEvents
 pub mod Fates
 pub mod Fields
 pub mod FlowEvents
 pub mod FlowReplies
 pub mod Op
 pub mod Outcome
+pub mod Parts
 pub mod Payloads
+pub mod Publishes
 pub mod Refusals
 pub mod Replies
 pub mod Request

@@ -1,25 +1,41 @@
 -- The operations of the line protocol, and the fields of each.
-use Rattle.std.specs.Prelude.{ℕ, List, [], ◌∷◌, ◌++◌, Bool, ◌||◌, Option, Some, None, bytes_eq, codes, if◌then◌else◌}
+use Rattle.std.specs.Prelude.{ℕ, List, [], ◌∷◌, ◌++◌, Bool, ◌||◌, Option, find, bytes_eq, codes}
 use Rattle.std.specs.List.{list_any}
 use Rattle.sp_flowline.specs.declared.op.Op.{Op}
-use Rattle.sp_flowline.specs.declared.op.Op.TheVariants.{Provision, Publish, Bind, Unbind, Pull, Settle, Tally, Copy}
+use Rattle.sp_flowline.specs.declared.op.Op.TheVariants.{Provision, Deprovision, Change, Subscribe, Unsubscribe, Publish, Bind, Unbind, Pull, Settle, Tally, Copy}
+
+-- all operations
+abbrev pub all_ops : List Op
+all_ops =
+    Provision ∷ Deprovision ∷ Change ∷ Subscribe ∷ Unsubscribe ∷ Publish ∷ Bind ∷ Unbind ∷ Pull ∷ Settle ∷ Tally ∷ Copy ∷ []
+
+-- the word for an operation
+abbrev pub op_word : Op → List ℕ
+op_word Provision = codes "provision"
+op_word Deprovision = codes "deprovision"
+op_word Change = codes "change"
+op_word Subscribe = codes "subscribe"
+op_word Unsubscribe = codes "unsubscribe"
+op_word Publish = codes "publish"
+op_word Bind = codes "bind"
+op_word Unbind = codes "unbind"
+op_word Pull = codes "pull"
+op_word Settle = codes "settle"
+op_word Tally = codes "tally"
+op_word Copy = codes "copy"
 
 -- the operation of a word
 abbrev pub op_named : List ℕ → Option Op
-op_named word =
-    if bytes_eq word (codes "provision") then Some Provision
-    else (if bytes_eq word (codes "publish") then Some Publish
-    else (if bytes_eq word (codes "bind") then Some Bind
-    else (if bytes_eq word (codes "unbind") then Some Unbind
-    else (if bytes_eq word (codes "pull") then Some Pull
-    else (if bytes_eq word (codes "settle") then Some Settle
-    else (if bytes_eq word (codes "tally") then Some Tally
-    else (if bytes_eq word (codes "copy") then Some Copy else None)))))))
+op_named word = find (λ op. bytes_eq (op_word op) word) all_ops
 
--- the fields that a request of an operation has to have
+-- the fields that a request of an operation has to have; a publish has to have one of two
 abbrev pub required_fields : Op → List (List ℕ)
 required_fields Provision = codes "endpoint" ∷ []
-required_fields Publish = codes "queue" ∷ []
+required_fields Deprovision = codes "endpoint" ∷ []
+required_fields Change = codes "endpoint" ∷ codes "attributes" ∷ []
+required_fields Subscribe = codes "endpoint" ∷ codes "subscription" ∷ []
+required_fields Unsubscribe = codes "endpoint" ∷ codes "subscription" ∷ []
+required_fields Publish = []
 required_fields Bind = codes "endpoint" ∷ []
 required_fields Unbind = codes "flow" ∷ []
 required_fields Pull = codes "flow" ∷ []
@@ -29,14 +45,12 @@ required_fields Copy = codes "copy" ∷ []
 
 -- the fields that it may have besides
 abbrev pub optional_fields : Op → List (List ℕ)
-optional_fields Provision = []
-optional_fields Publish = codes "payload" ∷ codes "payload64" ∷ []
-optional_fields Bind = []
-optional_fields Unbind = []
+optional_fields Provision = codes "kind" ∷ codes "attributes" ∷ []
+optional_fields Publish = codes "topic" ∷ codes "queue" ∷ codes "mode" ∷ codes "payload" ∷ codes "payload64" ∷ []
+optional_fields Bind = codes "topic" ∷ []
 optional_fields Pull = codes "count" ∷ []
-optional_fields Settle = []
 optional_fields Tally = codes "endpoint" ∷ []
-optional_fields Copy = []
+optional_fields op = []
 
 -- whether an operation has a field of this name
 abbrev pub has_field : Op → List ℕ → Bool

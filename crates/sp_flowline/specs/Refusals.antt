@@ -3,10 +3,9 @@ use Rattle.std.specs.Prelude.{ℕ, List, codes}
 use Rattle.serde_json.specs.Data.{Data, number, unsigned, string, object, member, no_members}
 use Rattle.sp_base.specs.declared.refusal.Kind.{Kind}
 use Rattle.sp_base.specs.declared.refusal.Kind.TheVariants as kinds
-use Rattle.sp_base.specs.declared.refusal.Permission.{Permission}
-use Rattle.sp_base.specs.declared.refusal.Permission.TheVariants as permissions
 use Rattle.sp_base.specs.declared.refusal.Refusal.{Refusal}
 use Rattle.sp_base.specs.declared.refusal.Refusal.TheVariants.{BadRequest, DirectMode, BadTopic, BadSubscription, BadSelector, BadAttribute, UnknownEndpoint, EndpointExists, EndpointLimit, NoAccess, InUse, SubscriptionExists, SubscriptionLimit, UnknownSubscription, IngressDisabled, EgressDisabled, MessageTooLarge, QuotaExceeded, VpnQuotaExceeded, BindLimit, UnknownFlow, NotHeld, ReplayActive, NoReplay, LogDisabled, NotInLog, IdsSpent}
+use Rattle.sp_config.specs.Choices.{permission_word}
 
 abbrev pub whole : ℕ → Data
 whole n = number (unsigned n)
@@ -18,13 +17,6 @@ kind_word kinds.Copy = codes "copy"
 kind_word kinds.Flow = codes "flow"
 kind_word kinds.Replay = codes "replay"
 kind_word kinds.Unit = codes "unit"
-
-abbrev pub permission_word : Permission → List ℕ
-permission_word permissions.NoAccess = codes "no-access"
-permission_word permissions.ReadOnly = codes "read-only"
-permission_word permissions.Consume = codes "consume"
-permission_word permissions.ModifyTopic = codes "modify-topic"
-permission_word permissions.Delete = codes "delete"
 
 -- the number and the name of a rule, with one value before them, or with none
 abbrev pub bare_rule : ℕ → List ℕ → Data

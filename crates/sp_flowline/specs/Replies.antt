@@ -21,6 +21,13 @@ provision_data endpoint n unit = object
     (member (codes "ok") (string (codes "provision"))
     (member (codes "unit") (whole unit) no_members))))
 
+-- an endpoint that went or that was changed, by an operation of this word
+abbrev pub endpoint_data : List ℕ → List ℕ → ℕ → Data
+endpoint_data endpoint op unit = object
+    (member (codes "endpoint") (string endpoint)
+    (member (codes "ok") (string op)
+    (member (codes "unit") (whole unit) no_members)))
+
 -- a copy that was made, its endpoint and its fate
 abbrev pub told_data : PublishedCopy → Data
 told_data c = object (with_fate c.fate
@@ -74,6 +81,10 @@ copy_data copy fate details unit = object (with_fate fate (with_details details
 -- a reply at a number of units
 abbrev pub reply_data : Reply → ℕ → Data
 reply_data (replies.Provision endpoint n) unit = provision_data endpoint n unit
+reply_data (replies.Deprovision endpoint) unit = endpoint_data endpoint (codes "deprovision") unit
+reply_data (replies.Change endpoint) unit = endpoint_data endpoint (codes "change") unit
+reply_data (replies.Subscribe endpoint) unit = endpoint_data endpoint (codes "subscribe") unit
+reply_data (replies.Unsubscribe endpoint) unit = endpoint_data endpoint (codes "unsubscribe") unit
 reply_data (replies.Publish message copies) unit = publish_data message copies unit
 reply_data (replies.Bind endpoint flow discarded) unit = bind_data endpoint flow discarded unit
 reply_data (replies.Unbind flow closed returned) unit = unbind_data flow closed returned unit

@@ -1,5 +1,5 @@
 -- Which requests the bytes of a line are, and what is wrong with those that are none.
-use Rattle.std.specs.Prelude.{◌≡◌, ◌==◌, ◌⊎◌, ◌||◌, ℕ, List, not, false, Option, Some, None, if◌then◌else◌, codes, IsUtf8}
+use Rattle.std.specs.Prelude.{◌≡◌, ◌==◌, ◌⊎◌, ◌||◌, ℕ, List, not, false, Option, Some, None, Result, Ok, Err, if◌then◌else◌, codes, IsUtf8}
 use Rattle.std.specs.List.{list_any}
 use Rattle.serde_json.specs.Data.{Data}
 use Rattle.serde_json.specs.Read.{read}
@@ -7,7 +7,7 @@ use Rattle.sp_base.specs.declared.refusal.Refusal.{Refusal}
 use Rattle.sp_base.specs.declared.refusal.Refusal.TheVariants.{BadRequest}
 use Rattle.sp_event.specs.declared.request.Ask.{Ask}
 use Rattle.sp_flowline.specs.declared.op.Op.{Op}
-use Rattle.sp_flowline.specs.Fields.{op_at, has_required, another_field, has_two_payloads}
+use Rattle.sp_flowline.specs.Fields.{op_at, has_required, another_field, has_two_payloads, has_two_destinations}
 use Rattle.sp_flowline.specs.Asks.{ask_in}
 
 -- a request, or why there is none
@@ -16,8 +16,7 @@ pub data Reading : Type 0 where
   refused : Refusal → Reading
 
 -- the bytes are no JSON text of one line; the value is no object with a known op; a required field
--- is missing; there is a field that the op doesn't have, or two that exclude each other; a field
--- has a value outside its form
+-- is missing; there is a field that the op doesn't have, or two that exclude each other
 abbrev pub no_json : Reading
 no_json = refused (BadRequest 0)
 
@@ -30,19 +29,16 @@ missing = refused (BadRequest 2)
 abbrev pub foreign : Reading
 foreign = refused (BadRequest 3)
 
-abbrev pub malformed : Reading
-malformed = refused (BadRequest 4)
-
--- what the values of the fields ask for, unless one is outside its form
-abbrev pub asked : Option Ask → Reading
-asked (Some ask) = request ask
-asked None = malformed
+-- what the values of the fields ask for, or why nothing
+abbrev pub asked : Result Ask Refusal → Reading
+asked (Ok ask) = request ask
+asked (Err refusal) = refused refusal
 
 -- what is read of the fields: first which they are, and then their values
 abbrev pub fields_of : Op → Data → Reading
 fields_of op d =
     if not (has_required op d) then missing
-    else (if another_field op d || has_two_payloads d then foreign
+    else (if another_field op d || (has_two_payloads d || has_two_destinations d) then foreign
     else asked (ask_in op d))
 
 abbrev pub request_of : Option Op → Data → Reading

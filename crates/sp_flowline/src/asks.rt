@@ -1,62 +1,61 @@
 // Requests from the fields of a JSON object.
 ghost use Rattle.std.specs.Prelude.{◌≡◌, IfOk, option_map};
 ghost use Rattle.serde_json.specs.View.{view};
-ghost use Rattle.sp_flowline.specs.Asks.{provision_in, publish_in, tally_in, copy_in, ask_in};
+ghost use Rattle.sp_flowline.specs.Asks.{tally_in, copy_in, ask_in};
+ghost use Rattle.sp_flowline.specs.Outcome.{Takes};
+ghost use Rattle.sp_flowline.specs.Parts.{formed, done, looked};
 
-use crate::fields::{name_at, number_at, optional_name_at};
+use crate::endpoint_events::{
+    change_in, deprovision_in, provision_in, subscribe_in, unsubscribe_in,
+};
+use crate::fields::{number_at, optional_name_at};
 use crate::flow_events::{bind_in, pull_in, settle_in, unbind_in};
 use crate::op::Op;
-use crate::payloads::payload_in;
+use crate::publishes::publish_in;
+use crate::read::{ReadError, malformed};
 use serde_json::Value;
 use sp_base::number::CopyNo;
 use sp_event::request::{Ask, Event, Query};
-use sp_message::message::{Dest, Message};
-use sp_message::property::Properties;
 use std::alloc::{AllocError, Global};
 
-/// The request that the fields of an operation ask for. None where one has the wrong JSON kind, or
-/// a value outside its form.
-pub fn ask_in(alloc: Global, value: &Value, op: Op) -> Result<Option<Ask>, AllocError>
-    ensures { IfOk result (λ r. r ≡ ask_in op (view value.now)) }
+/// The request that the fields of an operation ask for. It is refused as a bad request with the `at`
+/// 4 where one has the wrong JSON kind, or a value outside its form; and else by its mode, topic,
+/// subscription or attributes, where they are none or not for it.
+pub fn ask_in(alloc: Global, value: &Value, op: Op) -> Result<Ask, ReadError>
+    ensures { Takes (ask_in op (view value.now)) result }
 {
     match op {
-        Op::Provision => Ok(provision_in(alloc, value)?.map(Ask::Do)),
-        Op::Publish => Ok(publish_in(alloc, value)?.map(Ask::Do)),
-        Op::Bind => Ok(bind_in(alloc, value)?.map(Ask::Do)),
-        Op::Unbind => Ok(unbind_in(value).map(Ask::Do)),
-        Op::Pull => Ok(pull_in(value).map(Ask::Do)),
-        Op::Settle => Ok(settle_in(value).map(Ask::Do)),
-        Op::Tally => Ok(tally_in(alloc, value)?.map(Ask::Look)),
-        Op::Copy => Ok(copy_in(value).map(Ask::Look)),
+        Op::Provision => Ok(Ask::Do(provision_in(alloc, value)?)),
+        Op::Deprovision => done(deprovision_in(alloc, value)?),
+        Op::Change => Ok(Ask::Do(change_in(alloc, value)?)),
+        Op::Subscribe => Ok(Ask::Do(subscribe_in(alloc, value)?)),
+        Op::Unsubscribe => Ok(Ask::Do(unsubscribe_in(alloc, value)?)),
+        Op::Publish => Ok(Ask::Do(publish_in(alloc, value)?)),
+        Op::Bind => Ok(Ask::Do(bind_in(alloc, value)?)),
+        Op::Unbind => done(unbind_in(value)),
+        Op::Pull => done(pull_in(value)),
+        Op::Settle => done(settle_in(value)),
+        Op::Tally => looked(tally_in(alloc, value)?),
+        Op::Copy => looked(copy_in(value)),
     }
 }
 
-fn provision_in(alloc: Global, value: &Value) -> Result<Option<Event>, AllocError>
-    ensures { IfOk result (λ r. r ≡ provision_in (view value.now)) }
+fn done(event: Option<Event>) -> Result<Ask, ReadError>
+    ensures { Takes (done (formed event)) result }
 {
-    let Some(endpoint) = name_at(alloc, value, "endpoint")? else {
-        return Ok(None);
-    };
-    Ok(Some(Event::Provision { endpoint }))
+    match event {
+        Some(event) => Ok(Ask::Do(event)),
+        None => Err(malformed()),
+    }
 }
 
-fn publish_in(alloc: Global, value: &Value) -> Result<Option<Event>, AllocError>
-    ensures { IfOk result (λ r. r ≡ publish_in (view value.now)) }
+fn looked(query: Option<Query>) -> Result<Ask, ReadError>
+    ensures { Takes (looked (formed query)) result }
 {
-    let Some(queue) = name_at(alloc, value, "queue")? else {
-        return Ok(None);
-    };
-    let Some(payload) = payload_in(alloc, value)? else {
-        return Ok(None);
-    };
-    let message = Message {
-        dest: Dest::Queue(queue),
-        payload,
-        ttl: 0,
-        eligible: false,
-        properties: Properties::none(alloc),
-    };
-    Ok(Some(Event::Publish { message }))
+    match query {
+        Some(query) => Ok(Ask::Look(query)),
+        None => Err(malformed()),
+    }
 }
 
 fn tally_in(alloc: Global, value: &Value) -> Result<Option<Query>, AllocError>

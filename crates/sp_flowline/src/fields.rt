@@ -4,7 +4,7 @@ ghost use Rattle.std.specs.List.{list_any, list_all};
 ghost use Rattle.serde_json.specs.View.{view};
 ghost use Rattle.std.specs.BTreeMap.{keys};
 ghost use Rattle.sp_flowline.specs.Op.{has_field};
-ghost use Rattle.sp_flowline.specs.Fields.{has_key, has_required, another_field, has_two_payloads, text_at, op_at, name_at, optional_name_at, whole_at, number_at, count_at, outcome_at};
+ghost use Rattle.sp_flowline.specs.Fields.{has_key, has_required, another_field, has_two_payloads, has_two_destinations, text_at, op_at, name_from, name_at, optional_name_at, whole_at, number_at, count_at, outcome_at};
 
 use crate::op::Op;
 use serde_json::{Map, Value};
@@ -25,13 +25,17 @@ pub fn has_key(value: &Value, key: &str) -> bool
     value.get(key).is_some()
 }
 
-/// Whether the fields that the operation requires are there.
+/// Whether the fields that the operation requires are there: for a publish, one of its destinations.
 pub fn has_required(value: &Value, op: Op) -> bool
     ensures { result ≡ has_required op (view value.now) }
 {
     match op {
-        Op::Provision | Op::Bind => has_key(value, "endpoint"),
-        Op::Publish => has_key(value, "queue"),
+        Op::Provision | Op::Deprovision | Op::Bind => has_key(value, "endpoint"),
+        Op::Change => has_key(value, "endpoint") && has_key(value, "attributes"),
+        Op::Subscribe | Op::Unsubscribe => {
+            has_key(value, "endpoint") && has_key(value, "subscription")
+        }
+        Op::Publish => has_key(value, "topic") || has_key(value, "queue"),
         Op::Unbind | Op::Pull => has_key(value, "flow"),
         Op::Settle => {
             has_key(value, "flow") && has_key(value, "copy") && has_key(value, "outcome")
@@ -64,6 +68,13 @@ pub fn has_two_payloads(value: &Value) -> bool
     has_key(value, "payload") && has_key(value, "payload64")
 }
 
+/// Whether both destinations are there.
+pub fn has_two_destinations(value: &Value) -> bool
+    ensures { result ≡ has_two_destinations (view value.now) }
+{
+    has_key(value, "topic") && has_key(value, "queue")
+}
+
 /// The operation that a field names.
 pub fn op_at(value: &Value, key: &str) -> Option<Op>
     ensures { result ≡ op_at key.now (view value.now) }
@@ -86,6 +97,13 @@ pub fn name_at(alloc: Global, value: &Value, key: &str) -> Result<Option<Name>, 
     let Some(text) = text_at(value, key) else {
         return Ok(None);
     };
+    name_from(alloc, text)
+}
+
+/// The name that a text is. None where it is none.
+pub fn name_from(alloc: Global, text: &str) -> Result<Option<Name>, AllocError>
+    ensures { IfOk result (λ r. r ≡ name_from text.now) }
+{
     match Name::read(alloc, text.as_bytes()) {
         Ok(name) => Ok(Some(name)),
         Err(NameError::BadName) => Ok(None),

@@ -1,11 +1,11 @@
 // Replies of flows as JSON values.
-ghost use Rattle.std.specs.Prelude.{◌≡◌, IfOk, map};
+ghost use Rattle.std.specs.Prelude.{◌≡◌, IfOk, OnOk, map};
 ghost use Rattle.serde_json.specs.Data.{array};
-ghost use Rattle.serde_json.specs.View.{view, items_of};
-ghost use Rattle.sp_flowline.specs.FlowReplies.{bind_data, fate_data, unbind_data, delivery_data, pull_data, settle_data};
+ghost use Rattle.serde_json.specs.View.{view, items_of, members_view};
+ghost use Rattle.sp_flowline.specs.FlowReplies.{bind_data, fate_data, unbind_data, with_destination, delivery_data, pull_data, settle_data};
 
 use crate::fates::put_fate;
-use crate::members::{put_text, put_whole};
+use crate::members::{Members, put_text, put_whole};
 use crate::payloads::put_payload;
 use serde_json::{Map, Value, json};
 use sp_copies::closed::Fate;
@@ -72,11 +72,18 @@ fn delivery_value(alloc: Global, delivery: &Delivery) -> Result<Value, AllocErro
         "properties",
         Value::Object(Map::new(alloc)),
     )?;
-    match &delivery.dest {
-        Dest::Queue(name) => put_text(&mut map, alloc, "queue", name.as_str())?,
-    }
+    put_destination(&mut map, alloc, &delivery.dest)?;
     put_payload(&mut map, alloc, delivery.payload.as_slice())?;
     Ok(Value::Object(map))
+}
+
+fn put_destination(map: &mut Members, alloc: Global, dest: &Dest) -> Result<(), AllocError>
+    ensures { OnOk result (members_view map.new.entries ≡ with_destination dest.now (members_view map.old.entries)) }
+{
+    match dest {
+        Dest::Topic(topic) => put_text(map, alloc, "topic", topic.as_str()),
+        Dest::Queue(name) => put_text(map, alloc, "queue", name.as_str()),
+    }
 }
 
 fn deliveries_value(alloc: Global, deliveries: &[Delivery]) -> Result<Value, AllocError>

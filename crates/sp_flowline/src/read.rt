@@ -5,7 +5,7 @@ ghost use Rattle.sp_flowline.specs.Request.{IsReadAs, reading_of};
 ghost use Rattle.sp_flowline.specs.Outcome.{Reads, Gives};
 
 use crate::asks::ask_in;
-use crate::fields::{another_field, has_required, has_two_payloads, op_at};
+use crate::fields::{another_field, has_required, has_two_destinations, has_two_payloads, op_at};
 use serde_json::Value;
 use sp_base::refusal::Refusal;
 use sp_event::request::Ask;
@@ -37,7 +37,9 @@ impl From<AllocError> for ReadError {
 /// request whose `at` is the first that applies: 0, the bytes are no JSON text of one line;
 /// 1, they are no object, or its op is missing, no text or unknown; 2, a required field is
 /// missing; 3, there is a field that the op doesn't have, or there are two that exclude each
-/// other; 4, a field has the wrong JSON kind or a value outside its range.
+/// other; 4, a field has the wrong JSON kind or a value outside its range. The direct mode, a topic
+/// or a subscription that is none, and the first attribute that is unknown or can't have its value,
+/// are refused after that, each by its own rule.
 pub fn read(alloc: Global, line: &[u8]) -> Result<Ask, ReadError>
     ensures { Reads line.now result }
 {
@@ -70,6 +72,13 @@ fn bad(at: u64) -> ReadError
     }
 }
 
+/// A field has the wrong JSON kind, or a value outside its form.
+pub fn malformed() -> ReadError
+    ensures { result ≡ ReadError.Refused (Refusal.BadRequest 4) }
+{
+    bad(4)
+}
+
 fn read_value(alloc: Global, value: &Value) -> Result<Ask, ReadError>
     ensures { Gives (reading_of (view value.now)) result }
 {
@@ -79,11 +88,11 @@ fn read_value(alloc: Global, value: &Value) -> Result<Ask, ReadError>
     if !has_required(value, op) {
         return Err(bad(2));
     }
-    if another_field(value, op) || has_two_payloads(value) {
+    if another_field(value, op) || has_two_payloads(value) || has_two_destinations(value) {
         return Err(bad(3));
     }
-    match ask_in(alloc, value, op)? {
-        Some(ask) => Ok(ask),
-        None => Err(bad(4)),
+    match ask_in(alloc, value, op) {
+        Ok(ask) => Ok(ask),
+        Err(error) => Err(error),
     }
 }

@@ -2,11 +2,12 @@
 ghost use Rattle.std.specs.Prelude.{◌≡◌, codes, IfOk};
 ghost use Rattle.serde_json.specs.Data.{string};
 ghost use Rattle.serde_json.specs.View.{view};
-ghost use Rattle.sp_flowline.specs.Refusals.{whole, kind_word, permission_word, bare_rule, rule_with, refusal_data};
+ghost use Rattle.sp_flowline.specs.Refusals.{whole, kind_word, bare_rule, rule_with, refusal_data};
 
 use serde_json::{Value, json};
 use sp_base::refusal::{Kind, Permission, Refusal};
 use sp_base::text::Str;
+use sp_config::permission::permission_word;
 use std::alloc::{AllocError, Global};
 
 fn kind_word(kind: Kind) -> &'static str
@@ -19,18 +20,6 @@ fn kind_word(kind: Kind) -> &'static str
         Kind::Flow => "flow",
         Kind::Replay => "replay",
         Kind::Unit => "unit",
-    }
-}
-
-fn permission_word(permission: Permission) -> &'static str
-    ensures { result.now ≡ permission_word permission }
-{
-    match permission {
-        Permission::NoAccess => "no-access",
-        Permission::ReadOnly => "read-only",
-        Permission::Consume => "consume",
-        Permission::ModifyTopic => "modify-topic",
-        Permission::Delete => "delete",
     }
 }
 

@@ -1,7 +1,7 @@
 // Replies as JSON values.
 ghost use Rattle.std.specs.Prelude.{◌≡◌, IfOk, OnOk};
 ghost use Rattle.serde_json.specs.View.{view, members_view};
-ghost use Rattle.sp_flowline.specs.Replies.{provision_data, told_data, copies_data, publish_data, causes_data, tally_data, with_details, copy_data, reply_data};
+ghost use Rattle.sp_flowline.specs.Replies.{provision_data, endpoint_data, told_data, copies_data, publish_data, causes_data, tally_data, with_details, copy_data, reply_data};
 
 use crate::fates::{cause_word, put_fate};
 use crate::flow_replies::{bind_value, pull_value, settle_value, unbind_value};
@@ -20,6 +20,12 @@ fn provision_value(
     ensures { IfOk result (λ v. view v ≡ provision_data endpoint.now number unit) }
 {
     json!(in alloc; {"endpoint": endpoint, "number": number, "ok": "provision", "unit": unit})
+}
+
+fn endpoint_value(alloc: Global, endpoint: &str, op: &str, unit: u64) -> Result<Value, AllocError>
+    ensures { IfOk result (λ v. view v ≡ endpoint_data endpoint.now op.now unit) }
+{
+    json!(in alloc; {"endpoint": endpoint, "ok": op, "unit": unit})
 }
 
 fn told_value(alloc: Global, told: &PublishedCopy) -> Result<Value, AllocError>
@@ -112,6 +118,16 @@ pub fn reply_value(alloc: Global, reply: &Reply, unit: u64) -> Result<Value, All
     match reply {
         Reply::Provision { endpoint, number } => {
             provision_value(alloc, endpoint.as_str(), number.value(), unit)
+        }
+        Reply::Deprovision { endpoint } => {
+            endpoint_value(alloc, endpoint.as_str(), "deprovision", unit)
+        }
+        Reply::Change { endpoint } => endpoint_value(alloc, endpoint.as_str(), "change", unit),
+        Reply::Subscribe { endpoint } => {
+            endpoint_value(alloc, endpoint.as_str(), "subscribe", unit)
+        }
+        Reply::Unsubscribe { endpoint } => {
+            endpoint_value(alloc, endpoint.as_str(), "unsubscribe", unit)
         }
         Reply::Publish { message, copies } => {
             publish_value(alloc, message.value(), copies.as_slice(), unit)

@@ -2,21 +2,25 @@
 use Rattle.std.proofs.Common.{◌≡◌, ℕ, Bool, true, false, cond, List, [], ◌∷◌, Option, Some, None, refl, subst}
 use Rattle.sp_base.specs.declared.refusal.Refusal.{Refusal}
 use Rattle.sp_message.specs.declared.message.Message.{Message}
-use Rattle.sp_message.specs.Size.{dest_bytes}
+use Rattle.sp_config.specs.declared.kind.EndpointKind.{EndpointKind}
+use Rattle.sp_config.specs.declared.setting.Setting.{Setting}
 use Rattle.sp_event.specs.declared.answer.Reply.{Reply}
 use Rattle.sp_event.specs.declared.request.Event.{Event}
-use Rattle.sp_event.specs.declared.request.Event.TheVariants.{Provision, Publish, Bind, Unbind, Pull, Settle}
+use Rattle.sp_event.specs.declared.request.Event.TheVariants.{Provision, Deprovision, Change, Subscribe, Unsubscribe, Publish, Bind, Unbind, Pull, Settle}
 use Rattle.sp_event.specs.declared.request.Outcome as settling
 use Rattle.sp_copies.specs.declared.made.MadeCopy.{MadeCopy}
 use Rattle.sp_ledger.specs.Bind.{bind_checks, bound, bind_to}
+use Rattle.sp_ledger.specs.Change.{change_checks, changed, change_of}
+use Rattle.sp_ledger.specs.Deprovision.{deprovision_checks, deprovisioned, deprovision_of}
+use Rattle.sp_ledger.specs.Subscribe.{subscribe_checks, subscribed, subscribe_to, unsubscribe_checks, unsubscribed, unsubscribe_from}
 use Rattle.sp_ledger.specs.Unbind.{unbind_checks, unbound, unbind_by}
 use Rattle.sp_ledger.specs.Pull.{pull_checks, pulled, handed_out, pull_of, pull_by}
 use Rattle.sp_ledger.specs.Settle.{settle_checks, settled, settle_by}
 use Rattle.sp_ledger.specs.Checks.{Check, first_refusal}
-use Rattle.sp_ledger.specs.Ledger.{Ledger, Endpoint, Flow, named, flow_of}
+use Rattle.sp_ledger.specs.Ledger.{Ledger, Endpoint, Flow, named, queue_named, flow_of}
 use Rattle.sp_ledger.specs.Outcome.{accepted, Stepped, decided}
 use Rattle.sp_ledger.specs.Provision.{provision_checks, provisioned}
-use Rattle.sp_ledger.specs.Publish.{publish_checks, published, publish_to}
+use Rattle.sp_ledger.specs.Publish.{publish_checks, published}
 use Rattle.sp_ledger.specs.Step.{unit_step}
 
 -- no rule is broken
@@ -44,21 +48,37 @@ where_accepted P None done holds M told e =
 
 -- what holds of the ledger and the reply of each event whose checks pass
 pub record AfterEach (P : Ledger → List Reply → Type 0) (L : Ledger) (moment : ℕ) : Type 0 where
-  pub comes : (name : List ℕ) → first_refusal (provision_checks L name) ≡ None → P (provisioned moment name L).ledger ((provisioned moment name L).reply ∷ [])
-  pub goes : (m : Message) (queue : Endpoint) → named (dest_bytes m.dest) L.endpoints ≡ Some queue → first_refusal (publish_checks L m queue) ≡ None → P (published moment m queue L).ledger ((published moment m queue L).reply ∷ [])
-  pub binds : (caller name : List ℕ) (endpoint : Endpoint) → named name L.endpoints ≡ Some endpoint → first_refusal (bind_checks L) ≡ None → P (bound moment caller endpoint L).ledger ((bound moment caller endpoint L).reply ∷ [])
+  pub comes : (caller name : List ℕ) (kind : EndpointKind) (settings : List Setting) → first_refusal (provision_checks L name kind settings) ≡ None → P (provisioned moment caller name kind settings L).ledger ((provisioned moment caller name kind settings L).reply ∷ [])
+  pub leaves : (name : List ℕ) (endpoint : Endpoint) → named name L.endpoints ≡ Some endpoint → first_refusal (deprovision_checks L endpoint) ≡ None → P (deprovisioned moment endpoint L).ledger ((deprovisioned moment endpoint L).reply ∷ [])
+  pub changes : (name : List ℕ) (settings : List Setting) (endpoint : Endpoint) → named name L.endpoints ≡ Some endpoint → first_refusal (change_checks L endpoint settings) ≡ None → P (changed moment endpoint settings L).ledger ((changed moment endpoint settings L).reply ∷ [])
+  pub subscribes : (name text : List ℕ) (queue : Endpoint) → queue_named name L.endpoints ≡ Some queue → first_refusal (subscribe_checks L queue text) ≡ None → P (subscribed moment queue text L).ledger ((subscribed moment queue text L).reply ∷ [])
+  pub unsubscribes : (name text : List ℕ) (queue : Endpoint) → queue_named name L.endpoints ≡ Some queue → first_refusal (unsubscribe_checks L queue text) ≡ None → P (unsubscribed moment queue text L).ledger ((unsubscribed moment queue text L).reply ∷ [])
+  pub goes : (m : Message) → first_refusal (publish_checks L m) ≡ None → P (published moment m L).ledger ((published moment m L).reply ∷ [])
+  pub binds : (caller name : List ℕ) (topic : Option (List ℕ)) (endpoint : Endpoint) → named name L.endpoints ≡ Some endpoint → first_refusal (bind_checks L endpoint topic) ≡ None → P (bound moment caller endpoint topic L).ledger ((bound moment caller endpoint topic L).reply ∷ [])
   pub unbinds : (caller : List ℕ) (flow : ℕ) (f : Flow) → flow_of L.flows caller flow ≡ Some f → first_refusal (unbind_checks L) ≡ None → P (unbound moment flow L).ledger ((unbound moment flow L).reply ∷ [])
   pub pulls : (caller : List ℕ) (flow count : ℕ) (f : Flow) → flow_of L.flows caller flow ≡ Some f → first_refusal (pull_checks L) ≡ None → P (handed_out moment flow (pulled L f count moment) L).ledger ((handed_out moment flow (pulled L f count moment) L).reply ∷ [])
   pub settles : (caller : List ℕ) (flow copy : ℕ) (outcome : settling.Outcome) (f : Flow) → flow_of L.flows caller flow ≡ Some f → first_refusal (settle_checks L flow copy) ≡ None → P (settled moment outcome copy L).ledger ((settled moment outcome copy L).reply ∷ [])
 
 module _ (P : Ledger → List Reply → Type 0) (L : Ledger) (moment : ℕ) (after : AfterEach P L moment) (M : Ledger) (told : List Reply) where
-  published_where : (m : Message) (found : Option Endpoint) → named (dest_bytes m.dest) L.endpoints ≡ found → publish_to moment m L found ≡ accepted M told → P M told
-  published_where m None is e = absurd (cc)
-  published_where m (Some queue) is e = where_accepted P (first_refusal (publish_checks L m queue)) (published moment m queue L) (after.goes m queue is) M told e
+  left_where : (name : List ℕ) (found : Option Endpoint) → named name L.endpoints ≡ found → deprovision_of moment name L found ≡ accepted M told → P M told
+  left_where name None is e = absurd (cc)
+  left_where name (Some endpoint) is e = where_accepted P (first_refusal (deprovision_checks L endpoint)) (deprovisioned moment endpoint L) (after.leaves name endpoint is) M told e
 
-  bound_where : (caller name : List ℕ) (found : Option Endpoint) → named name L.endpoints ≡ found → bind_to moment caller name L found ≡ accepted M told → P M told
-  bound_where caller name None is e = absurd (cc)
-  bound_where caller name (Some endpoint) is e = where_accepted P (first_refusal (bind_checks L)) (bound moment caller endpoint L) (after.binds caller name endpoint is) M told e
+  changed_where : (name : List ℕ) (settings : List Setting) (found : Option Endpoint) → named name L.endpoints ≡ found → change_of moment name settings L found ≡ accepted M told → P M told
+  changed_where name settings None is e = absurd (cc)
+  changed_where name settings (Some endpoint) is e = where_accepted P (first_refusal (change_checks L endpoint settings)) (changed moment endpoint settings L) (after.changes name settings endpoint is) M told e
+
+  subscribed_where : (name text : List ℕ) (found : Option Endpoint) → queue_named name L.endpoints ≡ found → subscribe_to moment name text L found ≡ accepted M told → P M told
+  subscribed_where name text None is e = absurd (cc)
+  subscribed_where name text (Some queue) is e = where_accepted P (first_refusal (subscribe_checks L queue text)) (subscribed moment queue text L) (after.subscribes name text queue is) M told e
+
+  unsubscribed_where : (name text : List ℕ) (found : Option Endpoint) → queue_named name L.endpoints ≡ found → unsubscribe_from moment name text L found ≡ accepted M told → P M told
+  unsubscribed_where name text None is e = absurd (cc)
+  unsubscribed_where name text (Some queue) is e = where_accepted P (first_refusal (unsubscribe_checks L queue text)) (unsubscribed moment queue text L) (after.unsubscribes name text queue is) M told e
+
+  bound_where : (caller name : List ℕ) (topic : Option (List ℕ)) (found : Option Endpoint) → named name L.endpoints ≡ found → bind_to moment caller name topic L found ≡ accepted M told → P M told
+  bound_where caller name topic None is e = absurd (cc)
+  bound_where caller name topic (Some endpoint) is e = where_accepted P (first_refusal (bind_checks L endpoint topic)) (bound moment caller endpoint topic L) (after.binds caller name topic endpoint is) M told e
 
   unbound_where : (caller : List ℕ) (flow : ℕ) (found : Option Flow) → flow_of L.flows caller flow ≡ found → unbind_by moment flow L found ≡ accepted M told → P M told
   unbound_where caller flow None is e = absurd (cc)
@@ -82,9 +102,13 @@ module _ (P : Ledger → List Reply → Type 0) (L : Ledger) (moment : ℕ) (aft
   -- what each event leaves where its checks pass is what every accepted unit leaves
   pub each_event : (caller : List ℕ) (unit : List Event) → unit_step moment caller unit L ≡ accepted M told → P M told
   each_event caller [] e = absurd (cc)
-  each_event caller (Provision name ∷ []) e = where_accepted P (first_refusal (provision_checks L name)) (provisioned moment name L) (after.comes name) M told e
-  each_event caller (Publish m ∷ []) e = published_where m (named (dest_bytes m.dest) L.endpoints) refl e
-  each_event caller (Bind name ∷ []) e = bound_where caller name (named name L.endpoints) refl e
+  each_event caller (Provision name kind settings ∷ []) e = where_accepted P (first_refusal (provision_checks L name kind settings)) (provisioned moment caller name kind settings L) (after.comes caller name kind settings) M told e
+  each_event caller (Deprovision name ∷ []) e = left_where name (named name L.endpoints) refl e
+  each_event caller (Change name settings ∷ []) e = changed_where name settings (named name L.endpoints) refl e
+  each_event caller (Subscribe name text ∷ []) e = subscribed_where name text (queue_named name L.endpoints) refl e
+  each_event caller (Unsubscribe name text ∷ []) e = unsubscribed_where name text (queue_named name L.endpoints) refl e
+  each_event caller (Publish m ∷ []) e = where_accepted P (first_refusal (publish_checks L m)) (published moment m L) (after.goes m) M told e
+  each_event caller (Bind name topic ∷ []) e = bound_where caller name topic (named name L.endpoints) refl e
   each_event caller (Unbind flow ∷ []) e = unbound_where caller flow (flow_of L.flows caller flow) refl e
   each_event caller (Pull flow count ∷ []) e = pulled_where caller flow count (flow_of L.flows caller flow) refl e
   each_event caller (Settle flow copy outcome ∷ []) e = settled_where caller flow copy outcome (flow_of L.flows caller flow) refl e

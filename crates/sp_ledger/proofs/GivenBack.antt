@@ -8,11 +8,13 @@ use Rattle.sp_copies.specs.declared.made.MadeCopy.{MadeCopy}
 use Rattle.sp_copies.specs.declared.held.HeldCopy.{HeldCopy}
 use Rattle.sp_copies.specs.History.{History, held_by, is_held_by, is_made, is_spooled, let_go, with_given_back}
 use Rattle.sp_copies.specs.Sound.{IsSoundHistory}
+use Rattle.sp_copies.proofs.Marks.{eqb-turned}
 use Rattle.sp_copies.proofs.ReturnedSound.{given_back_sound}
+use Rattle.sp_topic.proofs.Searches.{list_any-map}
 use Rattle.sp_ledger.specs.Ledger.{Flow}
 use Rattle.sp_ledger.specs.One.{is_bound_for}
 use Rattle.sp_ledger.specs.Unbind.{all_given_back, without_flow}
-use Rattle.sp_ledger.proofs.Listed.{All-both, All-kept, and_both, and_left, any_kept, any_self, or_both}
+use Rattle.sp_ledger.proofs.Listed.{All-both, All-kept, and_both, and_left, any_kept, any_self, not_true}
 use Rattle.sp_ledger.proofs.OneKept.{HeldBound}
 
 -- what was made and closed stays, and so do the counts of attempts
@@ -45,26 +47,18 @@ pub still_held : (P : HeldCopy → Type 0) (cs : List ℕ) (H : History) → All
 still_held P [] H all = All-weaker P (λ (h : HeldCopy). P h × (is_among [] h.copy ≡ false)) (λ h p. (p, refl)) H.held all
 still_held P (c ∷ cs) H all =
     All-weaker (λ (h : HeldCopy). (P h × IsTrue (not (h.copy == c))) × (is_among cs h.copy ≡ false)) (λ (h : HeldCopy). P h × (is_among (c ∷ cs) h.copy ≡ false))
-    (λ h p. (p.0.0, apart (c == h.copy) refl h p.0.1 p.1)) (all_given_back cs (with_given_back c H)).held
+    (λ h p. (p.0.0, apart h p.0.1 p.1)) (all_given_back cs (with_given_back c H)).held
     (still_held (λ (h : HeldCopy). P h × IsTrue (not (h.copy == c))) cs (with_given_back c H) kept)
   where
     kept : All (λ (h : HeldCopy). P h × IsTrue (not (h.copy == c))) (let_go c H.held)
     kept = All-both P (λ (h : HeldCopy). IsTrue (not (h.copy == c))) (let_go c H.held) (All-filter (λ (h : HeldCopy). not (h.copy == c)) P H.held all) (All-kept {X = HeldCopy} (λ h. not (h.copy == c)) H.held)
 
-    apart : (b : Bool) → b ≡ b → (h : HeldCopy) → IsTrue (not (h.copy == c)) → is_among cs h.copy ≡ false → ((c == h.copy) || is_among cs h.copy) ≡ false
-    apart b same h other rest = ap (λ x. x || is_among cs h.copy) (turned (c == h.copy) refl) ∙ rest
-      where
-        turned : (x : Bool) → (c == h.copy) ≡ x → (c == h.copy) ≡ false
-        turned false is = is
-        turned true is = absurd (let e : (h.copy == c) ≡ true = eq-eqb h.copy c (sym (eqb-true _ _ is)) in cc)
+    apart : (h : HeldCopy) → IsTrue (not (h.copy == c)) → is_among cs h.copy ≡ false → ((c == h.copy) || is_among cs h.copy) ≡ false
+    apart h other rest = ap (λ x. x || is_among cs h.copy) (eqb-turned c h.copy ∙ not_true (h.copy == c) other) ∙ rest
 
 -- what is found by its number is kept by a test that it passes
 kept_number : (k : ℕ) (p : MadeCopy → Bool) → ((c : MadeCopy) → (c.number == k) ≡ true → p c ≡ true) → (cs : List MadeCopy) → list_any (λ c. c.number == k) cs ≡ true → is_among (map (λ c. c.number) (filter p cs)) k ≡ true
-kept_number k p w cs h = numbers (filter p cs) (any_kept {X = MadeCopy} (λ c. c.number == k) p w cs h)
-  where
-    numbers : (ds : List MadeCopy) → list_any (λ (c : MadeCopy). c.number == k) ds ≡ true → is_among (map (λ (c : MadeCopy). c.number) ds) k ≡ true
-    numbers [] h = absurd (cc)
-    numbers (d ∷ ds) h = or_both (d.number == k) (list_any (λ (c : MadeCopy). c.number == k) ds) (d.number == k) (is_among (map (λ (c : MadeCopy). c.number) ds) k) (λ x. x) (numbers ds) h
+kept_number k p w cs h = list_any-map {X = MadeCopy} (λ n. n == k) (λ c. c.number) (filter p cs) ∙ any_kept {X = MadeCopy} (λ c. c.number == k) p w cs h
 
 -- each copy that a flow holds is among those that it gives back
 pub holds_all : (H : History) (flow : ℕ) → IsSoundHistory H → All (λ h. (h.flow == flow) ≡ true → is_among (held_by H flow) h.copy ≡ true) H.held

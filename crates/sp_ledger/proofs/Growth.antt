@@ -1,17 +1,16 @@
 -- Each event leaves what was made and closed, and what its reply tells of copies holds.
-use Rattle.std.proofs.Common.{◌≡◌, ◌==◌, ℕ, Bool, true, false, not, ◌||◌, cond, List, [], ◌∷◌, ◌++◌, Option, Some, None, refl, sym, ap, subst, ◌∙◌, append-nil, append_assoc}
+use Rattle.std.proofs.Common.{◌≡◌, ◌==◌, ℕ, Bool, true, false, ◌||◌, cond, List, [], ◌∷◌, ◌++◌, Option, Some, None, refl, sym, ap, subst, ◌∙◌, append-nil, append_assoc, max}
 use Rattle.std.specs.Prelude.{All, find, option_map}
 use Rattle.std.specs.List.{filter_map, cons_option}
 use Rattle.std.proofs.lemmas.List.Elements.{All-nil, All-cons, All-weaker, All-head, All-tail}
 use Rattle.std.proofs.lemmas.Bool.{eq-eqb}
-use Rattle.sp_message.specs.declared.message.Message.{Message}
-use Rattle.sp_message.specs.Size.{dest_bytes}
+use Rattle.sp_message.specs.Size.{size_of}
 use Rattle.sp_copies.specs.declared.closed.ClosedCopy.{ClosedCopy}
 use Rattle.sp_copies.specs.declared.closed.Closing.TheVariants as closings
 use Rattle.sp_copies.specs.declared.closed.Fate.{Fate}
 use Rattle.sp_copies.specs.declared.closed.Fate.TheVariants as fates
 use Rattle.sp_copies.specs.declared.made.MadeCopy.{MadeCopy}
-use Rattle.sp_copies.specs.History.{closing_of, held_by, is_closed, is_free, is_held_by, is_made, is_spooled, numbered}
+use Rattle.sp_copies.specs.History.{closing_of, held_by, is_closed, is_free, is_held_by, is_made, is_spooled}
 use Rattle.sp_event.specs.declared.answer.CopyFate.{CopyFate}
 use Rattle.sp_event.specs.declared.answer.Delivery.{Delivery}
 use Rattle.sp_event.specs.declared.answer.PublishedCopy.{PublishedCopy}
@@ -22,25 +21,33 @@ use Rattle.sp_event.specs.declared.request.Event.{Event}
 use Rattle.sp_event.specs.declared.request.Event.TheVariants as events
 use Rattle.sp_event.specs.declared.request.Outcome as settling
 use Rattle.sp_event.specs.declared.request.Outcome.TheVariants.{Accepted}
-use Rattle.sp_ledger.specs.Bind.{bind_checks, bind_to, bound}
+use Rattle.sp_config.specs.declared.setting.Setting.{Setting}
+use Rattle.sp_ledger.specs.Bind.{bind_checks, bind_to, bound, outdated}
+use Rattle.sp_ledger.specs.Change.{change_checks, change_of, changed}
 use Rattle.sp_ledger.specs.Checks.{first_refusal}
+use Rattle.sp_ledger.specs.Deprovision.{deprovision_checks, deprovision_of, deprovisioned}
 use Rattle.sp_ledger.specs.Extends.{Extends, FateHolds, IsTold}
-use Rattle.sp_ledger.specs.Ledger.{Ledger, Endpoint, Flow, Published, flow_of, message_of, named}
+use Rattle.sp_ledger.specs.Ledger.{Ledger, Endpoint, Flow, Published, flow_of, message_of, named, queue_named}
 use Rattle.sp_ledger.specs.Balance.{TellsBalanced}
 use Rattle.sp_ledger.specs.Outcome.{idle, accepted, Stepped, decided}
 use Rattle.sp_ledger.specs.Provision.{provision_checks, provisioned}
-use Rattle.sp_ledger.specs.Publish.{publish_checks, published, publish_to, copy_for}
+use Rattle.sp_ledger.specs.Publish.{copies_for, publish_checks, published}
 use Rattle.sp_ledger.specs.Pull.{delivered, deliveries, handed_out, pull_by, pull_checks, pull_of, pulled}
 use Rattle.sp_ledger.specs.Settle.{settle_by, settle_checks, settled}
 use Rattle.sp_ledger.specs.Sound.{IsSound}
 use Rattle.sp_ledger.specs.Step.{unit_step}
+use Rattle.sp_ledger.specs.Subscribe.{subscribe_checks, subscribe_to, subscribed, unsubscribe_checks, unsubscribe_from, unsubscribed}
+use Rattle.sp_ledger.specs.Targets.{targets}
 use Rattle.sp_ledger.specs.Unbind.{unbind_by, unbind_checks, unbound}
 use Rattle.sp_ledger.proofs.Closings.{still_closed, still_closing}
 use Rattle.sp_ledger.proofs.Decisions.{each_event, passes}
+use Rattle.sp_ledger.proofs.Discarded.{discarded_closed, discarded_made}
 use Rattle.sp_ledger.proofs.GivenBack.{given_closed, given_made}
 use Rattle.sp_ledger.proofs.HandedOut.{handed_closed, handed_made, pulled_free}
-use Rattle.sp_ledger.proofs.Listed.{and_left, and_right, any_last, any_grows, not_true}
+use Rattle.sp_ledger.proofs.Listed.{and_left, and_right, any_grows, not_false, not_true}
+use Rattle.sp_ledger.proofs.ManyMade.{many_closed, many_made}
 use Rattle.sp_ledger.proofs.Soundness.{held_is_spooled}
+use Rattle.sp_ledger.proofs.Told.{told_made}
 
 pub Extends-refl : (L : Ledger) → Extends L L
 Extends-refl L = record { made = ([], sym (append-nil L.copies.made)); closed = ([], sym (append-nil L.copies.closed)) }
@@ -58,13 +65,23 @@ same_extends L M made closed = record { made = ([], made ∙ sym (append-nil L.c
 settled_extends : (L : Ledger) (moment copy : ℕ) (outcome : settling.Outcome) → Extends L (settled moment outcome copy L).ledger
 settled_extends L moment copy Accepted = record { made = ([], sym (append-nil L.copies.made)); closed = (_, refl) }
 
+bound_extends : (L : Ledger) (moment : ℕ) (caller : List ℕ) (e : Endpoint) (topic : Option (List ℕ)) → Extends L (bound moment caller e topic L).ledger
+bound_extends L moment caller e topic =
+    let now = max L.now moment in
+    let gone = outdated L e topic in
+    record { made = ([], discarded_made now gone L.copies ∙ sym (append-nil L.copies.made)); closed = (_, discarded_closed now gone L.copies) }
+
 -- each accepted unit extends the ledger
 pub step_extends : (L : Ledger) (moment : ℕ) (caller : List ℕ) (unit : List Event) (M : Ledger) (told : List Reply) → unit_step moment caller unit L ≡ accepted M told → Extends L M
 step_extends L moment caller unit M told e =
     each_event (λ m t. Extends L m) L moment (record {
-      comes = λ name h. same_extends L (provisioned moment name L).ledger refl refl;
-      goes = λ m queue found h. record { made = (numbered L.copies.next (copy_for L m queue) ∷ [], refl); closed = ([], sym (append-nil L.copies.closed)) };
-      binds = λ from name endpoint found h. same_extends L (bound moment from endpoint L).ledger refl refl;
+      comes = λ from name kind settings h. same_extends L (provisioned moment from name kind settings L).ledger refl refl;
+      leaves = λ name endpoint found h. same_extends L (deprovisioned moment endpoint L).ledger refl refl;
+      changes = λ name settings endpoint found h. same_extends L (changed moment endpoint settings L).ledger refl refl;
+      subscribes = λ name text queue found h. same_extends L (subscribed moment queue text L).ledger refl refl;
+      unsubscribes = λ name text queue found h. same_extends L (unsubscribed moment queue text L).ledger refl refl;
+      goes = λ m h. record { made = (_, many_made (copies_for L m) L.copies); closed = ([], many_closed (copies_for L m) L.copies ∙ sym (append-nil L.copies.closed)) };
+      binds = λ from name topic endpoint found h. bound_extends L moment from endpoint topic;
       unbinds = λ from flow f found h. same_extends L (unbound moment flow L).ledger (given_made (held_by L.copies flow) L.copies) (given_closed (held_by L.copies flow) L.copies);
       pulls = λ from flow count f found h. same_extends L (handed_out moment flow (pulled L f count moment) L).ledger (handed_made flow (pulled L f count moment) L.copies) (handed_closed flow (pulled L f count moment) L.copies);
       settles = λ from flow copy outcome f found h. settled_extends L moment copy outcome;
@@ -86,6 +103,10 @@ fate_stays L M x copy fates.Earlier h = subst (λ xs. is_closed xs copy ≡ true
 -- what a reply told holds in each later ledger too
 pub still_told : (L M : Ledger) → Extends L M → (r : Reply) → IsTold L.copies r → IsTold M.copies r
 still_told L M x (replies.Provision endpoint n) h = tt
+still_told L M x (replies.Deprovision endpoint) h = tt
+still_told L M x (replies.Change endpoint) h = tt
+still_told L M x (replies.Subscribe endpoint) h = tt
+still_told L M x (replies.Unsubscribe endpoint) h = tt
 still_told L M x (replies.Publish message copies) h =
     All-weaker (λ (c : PublishedCopy). (is_made L.copies.made c.copy ≡ true) × FateHolds L.copies c.copy c.fate) (λ (c : PublishedCopy). (is_made M.copies.made c.copy ≡ true) × FateHolds M.copies c.copy c.fate)
     (λ c k. (still_made L M x c.copy k.0, fate_stays L M x c.copy c.fate k.1)) copies h
@@ -136,12 +157,8 @@ closing_last (y ∷ ys) x h = one (closing_last ys x) (y.copy == x.copy) h
 settled_tells : (L : Ledger) → IsSound L → (moment flow copy : ℕ) (outcome : settling.Outcome) → first_refusal (settle_checks L flow copy) ≡ None → IsTold (settled moment outcome copy L).ledger.copies (settled moment outcome copy L).reply
 settled_tells L s moment flow copy Accepted h =
     let p = passes (settle_checks L flow copy) h in
-    let spooled = held_is_spooled L.copies s.copies flow copy (held_if (is_held_by L.copies.held flow copy) p.0) in
+    let spooled = held_is_spooled L.copies s.copies flow copy (not_false (is_held_by L.copies.held flow copy) p.0) in
     closing_last L.copies.closed _ (not_true (is_closed L.copies.closed copy) (and_right (is_made L.copies.made copy) _ spooled))
-  where
-    held_if : (b : Bool) → not b ≡ false → b ≡ true
-    held_if true is = refl
-    held_if false is = absurd (cc)
 
 -- one reply of which a fact holds
 single : (P : Reply → Type 0) (r : Reply) → P r → All P (r ∷ [])
@@ -151,14 +168,13 @@ single P r h = All-cons P r [] h (All-nil P)
 pub step_tells : (L : Ledger) → IsSound L → (moment : ℕ) (caller : List ℕ) (unit : List Event) (M : Ledger) (told : List Reply) → unit_step moment caller unit L ≡ accepted M told → All (IsTold M.copies) told
 step_tells L s moment caller unit M told e =
     each_event (λ m t. All (IsTold m.copies) t) L moment (record {
-      comes = λ name h. single (IsTold (provisioned moment name L).ledger.copies) (provisioned moment name L).reply tt;
-      goes = λ m queue found h.
-          let N = (published moment m queue L).ledger in
-          let made : is_made N.copies.made L.copies.next ≡ true = any_last {X = MadeCopy} (λ c. c.number == L.copies.next) L.copies.made (numbered L.copies.next (copy_for L m queue)) (eq-eqb L.copies.next L.copies.next refl) in
-          let copy : PublishedCopy = record { copy = L.copies.next; endpoint = queue.name; fate = fates.Spooled } in
-          single (IsTold N.copies) (published moment m queue L).reply
-          (All-cons (λ (c : PublishedCopy). (is_made N.copies.made c.copy ≡ true) × FateHolds N.copies c.copy c.fate) copy [] (made, made) (All-nil (λ (c : PublishedCopy). (is_made N.copies.made c.copy ≡ true) × FateHolds N.copies c.copy c.fate)));
-      binds = λ from name endpoint found h. single (IsTold (bound moment from endpoint L).ledger.copies) (bound moment from endpoint L).reply tt;
+      comes = λ from name kind settings h. single (IsTold (provisioned moment from name kind settings L).ledger.copies) (provisioned moment from name kind settings L).reply tt;
+      leaves = λ name endpoint found h. single (IsTold (deprovisioned moment endpoint L).ledger.copies) (deprovisioned moment endpoint L).reply tt;
+      changes = λ name settings endpoint found h. single (IsTold (changed moment endpoint settings L).ledger.copies) (changed moment endpoint settings L).reply tt;
+      subscribes = λ name text queue found h. single (IsTold (subscribed moment queue text L).ledger.copies) (subscribed moment queue text L).reply tt;
+      unsubscribes = λ name text queue found h. single (IsTold (unsubscribed moment queue text L).ledger.copies) (unsubscribed moment queue text L).reply tt;
+      goes = λ m h. single (IsTold (published moment m L).ledger.copies) (published moment m L).reply (told_made L.next.message (size_of m) (targets L m.dest) L.copies);
+      binds = λ from name topic endpoint found h. single (IsTold (bound moment from endpoint topic L).ledger.copies) (bound moment from endpoint topic L).reply tt;
       unbinds = λ from flow f found h. single (IsTold (unbound moment flow L).ledger.copies) (unbound moment flow L).reply (All-nil (λ (t : CopyFate). FateHolds (unbound moment flow L).ledger.copies t.copy t.fate));
       pulls = λ from flow count f found h.
           let cs = pulled L f count moment in
@@ -174,9 +190,13 @@ settled_balanced L moment copy Accepted = tt
 pub step_balanced : (L : Ledger) (moment : ℕ) (caller : List ℕ) (unit : List Event) (M : Ledger) (told : List Reply) → unit_step moment caller unit L ≡ accepted M told → All TellsBalanced told
 step_balanced L moment caller unit M told e =
     each_event (λ m t. All TellsBalanced t) L moment (record {
-      comes = λ name h. single TellsBalanced (provisioned moment name L).reply tt;
-      goes = λ m queue found h. single TellsBalanced (published moment m queue L).reply tt;
-      binds = λ from name endpoint found h. single TellsBalanced (bound moment from endpoint L).reply tt;
+      comes = λ from name kind settings h. single TellsBalanced (provisioned moment from name kind settings L).reply tt;
+      leaves = λ name endpoint found h. single TellsBalanced (deprovisioned moment endpoint L).reply tt;
+      changes = λ name settings endpoint found h. single TellsBalanced (changed moment endpoint settings L).reply tt;
+      subscribes = λ name text queue found h. single TellsBalanced (subscribed moment queue text L).reply tt;
+      unsubscribes = λ name text queue found h. single TellsBalanced (unsubscribed moment queue text L).reply tt;
+      goes = λ m h. single TellsBalanced (published moment m L).reply tt;
+      binds = λ from name topic endpoint found h. single TellsBalanced (bound moment from endpoint topic L).reply tt;
       unbinds = λ from flow f found h. single TellsBalanced (unbound moment flow L).reply tt;
       pulls = λ from flow count f found h. single TellsBalanced (handed_out moment flow (pulled L f count moment) L).reply tt;
       settles = λ from flow copy outcome f found h. single TellsBalanced (settled moment outcome copy L).reply (settled_balanced L moment copy outcome);
@@ -191,13 +211,25 @@ module _ (L : Ledger) (moment : ℕ) (told : List Reply) where
   abbrev Tells : Reply → Type 0
   Tells r = IsTold L.copies r × TellsBalanced r
 
-  published_idle : (m : Message) (found : Option Endpoint) → publish_to moment m L found ≡ idle told → ⊥
-  published_idle m None e = cc
-  published_idle m (Some queue) e = decided_not_idle (first_refusal (publish_checks L m queue)) (published moment m queue L) told e
+  left_idle : (name : List ℕ) (found : Option Endpoint) → deprovision_of moment name L found ≡ idle told → ⊥
+  left_idle name None e = cc
+  left_idle name (Some endpoint) e = decided_not_idle (first_refusal (deprovision_checks L endpoint)) (deprovisioned moment endpoint L) told e
 
-  bound_idle : (caller name : List ℕ) (found : Option Endpoint) → bind_to moment caller name L found ≡ idle told → ⊥
-  bound_idle caller name None e = cc
-  bound_idle caller name (Some endpoint) e = decided_not_idle (first_refusal (bind_checks L)) (bound moment caller endpoint L) told e
+  changed_idle : (name : List ℕ) (settings : List Setting) (found : Option Endpoint) → change_of moment name settings L found ≡ idle told → ⊥
+  changed_idle name settings None e = cc
+  changed_idle name settings (Some endpoint) e = decided_not_idle (first_refusal (change_checks L endpoint settings)) (changed moment endpoint settings L) told e
+
+  subscribed_idle : (name text : List ℕ) (found : Option Endpoint) → subscribe_to moment name text L found ≡ idle told → ⊥
+  subscribed_idle name text None e = cc
+  subscribed_idle name text (Some queue) e = decided_not_idle (first_refusal (subscribe_checks L queue text)) (subscribed moment queue text L) told e
+
+  unsubscribed_idle : (name text : List ℕ) (found : Option Endpoint) → unsubscribe_from moment name text L found ≡ idle told → ⊥
+  unsubscribed_idle name text None e = cc
+  unsubscribed_idle name text (Some queue) e = decided_not_idle (first_refusal (unsubscribe_checks L queue text)) (unsubscribed moment queue text L) told e
+
+  bound_idle : (caller name : List ℕ) (topic : Option (List ℕ)) (found : Option Endpoint) → bind_to moment caller name topic L found ≡ idle told → ⊥
+  bound_idle caller name topic None e = cc
+  bound_idle caller name topic (Some endpoint) e = decided_not_idle (first_refusal (bind_checks L endpoint topic)) (bound moment caller endpoint topic L) told e
 
   unbound_idle : (flow : ℕ) (found : Option Flow) → unbind_by moment flow L found ≡ idle told → ⊥
   unbound_idle flow None e = cc
@@ -217,9 +249,13 @@ module _ (L : Ledger) (moment : ℕ) (told : List Reply) where
 
   pub idle_tells : (caller : List ℕ) (unit : List Event) → unit_step moment caller unit L ≡ idle told → All (λ r. IsTold L.copies r × TellsBalanced r) told
   idle_tells caller [] e = subst (All Tells) (let same : [] ≡ told = cc in same) (All-nil Tells)
-  idle_tells caller (events.Provision name ∷ []) e = absurd (decided_not_idle (first_refusal (provision_checks L name)) (provisioned moment name L) told e)
-  idle_tells caller (events.Publish m ∷ []) e = absurd (published_idle m (named (dest_bytes m.dest) L.endpoints) e)
-  idle_tells caller (events.Bind name ∷ []) e = absurd (bound_idle caller name (named name L.endpoints) e)
+  idle_tells caller (events.Provision name kind settings ∷ []) e = absurd (decided_not_idle (first_refusal (provision_checks L name kind settings)) (provisioned moment caller name kind settings L) told e)
+  idle_tells caller (events.Deprovision name ∷ []) e = absurd (left_idle name (named name L.endpoints) e)
+  idle_tells caller (events.Change name settings ∷ []) e = absurd (changed_idle name settings (named name L.endpoints) e)
+  idle_tells caller (events.Subscribe name text ∷ []) e = absurd (subscribed_idle name text (queue_named name L.endpoints) e)
+  idle_tells caller (events.Unsubscribe name text ∷ []) e = absurd (unsubscribed_idle name text (queue_named name L.endpoints) e)
+  idle_tells caller (events.Publish m ∷ []) e = absurd (decided_not_idle (first_refusal (publish_checks L m)) (published moment m L) told e)
+  idle_tells caller (events.Bind name topic ∷ []) e = absurd (bound_idle caller name topic (named name L.endpoints) e)
   idle_tells caller (events.Unbind flow ∷ []) e = absurd (unbound_idle flow (flow_of L.flows caller flow) e)
   idle_tells caller (events.Pull flow count ∷ []) e = pulled_idle flow count (flow_of L.flows caller flow) e
   idle_tells caller (events.Settle flow copy outcome ∷ []) e = absurd (settled_idle flow copy outcome (flow_of L.flows caller flow) e)

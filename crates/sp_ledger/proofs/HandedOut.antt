@@ -12,6 +12,7 @@ use Rattle.sp_copies.specs.declared.held.HeldCopy.{HeldCopy}
 use Rattle.sp_copies.specs.History.{History, has_come, is_free, is_held, is_made, is_open_in, is_spooled, once_more, open_copies, waiting_copies, with_held}
 use Rattle.sp_copies.specs.Sound.{IsSoundHistory}
 use Rattle.sp_copies.proofs.HeldSound.{held_sound}
+use Rattle.sp_copies.proofs.Marks.{eqb-turned}
 use Rattle.sp_ledger.specs.Ledger.{Ledger, Flow}
 use Rattle.sp_ledger.specs.One.{is_bound_for}
 use Rattle.sp_ledger.specs.Pull.{all_handed_out, pulled}
@@ -118,11 +119,7 @@ may_rise cs a = cond (list_any (λ c. c.number == a.copy) cs) 1 0
 
 -- none of greater numbers is this one
 none_greater : (k : ℕ) (cs : List MadeCopy) → All (λ c. k < c.number) cs → list_any (λ c. c.number == k) cs ≡ false
-none_greater k cs all = list_any_none {X = MadeCopy} (λ c. c.number == k) cs (All-weaker (λ (c : MadeCopy). k < c.number) (λ (c : MadeCopy). (c.number == k) ≡ false) (λ c lt. one c lt (c.number == k) refl) cs all)
-  where
-    one : (c : MadeCopy) → k < c.number → (b : Bool) → (c.number == k) ≡ b → (c.number == k) ≡ false
-    one c lt false h = h
-    one c lt true h = let e : c.number ≡ k = eqb-true _ _ h in absurd (omega arith)
+none_greater k cs all = list_any_none {X = MadeCopy} (λ c. c.number == k) cs (All-weaker (λ (c : MadeCopy). k < c.number) (λ (c : MadeCopy). (c.number == k) ≡ false) (λ c lt. eqb-turned c.number k ∙ lesser_is_not k c.number lt) cs all)
 
 raised : (n : ℕ) (c : MadeCopy) (cs : List MadeCopy) → All (λ d. c.number < d.number) cs → (a : CopyAttempts) → a.count + may_rise (c ∷ cs) a < n → (b : Bool) → (a.copy == c.number) ≡ b → (cond b (once_more a) a).count + may_rise cs (cond b (once_more a) a) < n
 raised n c cs below a lt true is =
@@ -132,13 +129,9 @@ raised n c cs below a lt true is =
     let rest : may_rise cs a ≡ 0 = ap (λ b. cond b 1 0) none in
     omega (arith, lt, one, rest)
 raised n c cs below a lt false is =
-    let other : (c.number == a.copy) ≡ false = turned (c.number == a.copy) refl in
+    let other : (c.number == a.copy) ≡ false = eqb-turned c.number a.copy ∙ is in
     let same : may_rise (c ∷ cs) a ≡ may_rise cs a = ap (λ b. cond (b || list_any (λ (d : MadeCopy). d.number == a.copy) cs) 1 0) other in
     omega (arith, lt, same)
-  where
-    turned : (b : Bool) → (c.number == a.copy) ≡ b → (c.number == a.copy) ≡ false
-    turned false h = h
-    turned true h = absurd (let e : (a.copy == c.number) ≡ true = eq-eqb a.copy c.number (sym (eqb-true _ _ h)) in cc)
 
 -- each count of attempts rises by at most one
 pub handed_attempts : (n flow : ℕ) (cs : List MadeCopy) (H : History) → AllPairs (λ c d. c.number < d.number) cs → All (λ a. a.count + may_rise cs a < n) H.attempts → All (λ a. a.count < n) (all_handed_out flow cs H).attempts

@@ -1,11 +1,13 @@
 -- Lists that are looked through, and grow or lose elements.
-use Rattle.std.proofs.Common.{◌≡◌, ◌<◌, ◌==◌, ℕ, zero, suc, Bool, true, false, ◌||◌, ◌&&◌, not, cond, List, [], ◌∷◌, ◌++◌, take, Some, refl, sym, subst, arith, ◌∙◌}
-use Rattle.std.specs.Prelude.{All, AllPairs, find, filter}
+use Rattle.std.proofs.Common.{◌≡◌, ◌<◌, ◌==◌, ℕ, zero, suc, Bool, true, false, ◌||◌, ◌&&◌, not, cond, List, [], ◌∷◌, ◌++◌, take, Some, ◌+◌, refl, sym, subst, arith, ◌∙◌}
+use Rattle.std.specs.Prelude.{All, AllPairs, count_by, find, filter, is_some, map}
 use Rattle.std.specs.List.{list_any}
-use Rattle.std.proofs.lemmas.List.Elements.{All-nil, All-cons, All-head, All-tail, All-weaker, All-take}
+use Rattle.std.proofs.lemmas.List.Elements.{All-nil, All-cons, All-head, All-tail, All-weaker, All-take, All-map, filter_passes}
 use Rattle.std.proofs.lemmas.List.Folds.{list_any-append}
 use Rattle.std.proofs.lemmas.List.Kept.{AllPairs-cons}
+use Rattle.std.proofs.lemmas.List.Sums.{sum_by-cons}
 use Rattle.std.proofs.lemmas.Bool.{eqb-true}
+use Rattle.sp_topic.proofs.Searches.{list_any-map}
 
 pub or_left : (a b : Bool) → a ≡ true → (a || b) ≡ true
 or_left true b h = refl
@@ -36,6 +38,10 @@ pub not_true : (a : Bool) → not a ≡ true → a ≡ false
 not_true true h = absurd (cc)
 not_true false h = refl
 
+pub not_false : (a : Bool) → not a ≡ false → a ≡ true
+not_false true h = refl
+not_false false h = absurd (cc)
+
 -- what is found stays found where the list grows behind
 pub any_grows : {X : Type 0} (p : X → Bool) (xs ys : List X) → list_any p xs ≡ true → list_any p (xs ++ ys) ≡ true
 any_grows p xs ys h = list_any-append p xs ys ∙ or_left _ _ h
@@ -63,6 +69,10 @@ any_kept {X} p q w (x ∷ xs) h = one (any_kept p q w xs) (q x) refl
     one : (list_any p xs ≡ true → list_any p (filter q xs) ≡ true) → (b : Bool) → q x ≡ b → list_any p (cond b (x ∷ filter q xs) (filter q xs)) ≡ true
     one later true is = or_both (p x) (list_any p xs) (p x) (list_any p (filter q xs)) (λ k. k) later h
     one later false is = later (here (p x) refl (dropped is (p x) refl) h)
+
+-- what is found stays found where each element becomes one that passes too
+pub any_mapped : {X : Type 0} (p : X → Bool) (f : X → X) → ((x : X) → p x ≡ true → p (f x) ≡ true) → (xs : List X) → list_any p xs ≡ true → list_any p (map f xs) ≡ true
+any_mapped p f w xs h = list_any-map p f xs ∙ any_weaker p (λ x. p (f x)) w xs h
 
 -- each element that passes its own test is found by it
 pub any_self : {X : Type 0} (q : X → X → Bool) (xs : List X) → All (λ x. q x x ≡ true → list_any (q x) xs ≡ true) xs
@@ -98,6 +108,24 @@ All-find {X} P test (y ∷ ys) x all e = one (All-find P test ys x (All-tail P y
     one later true h = let same : y ≡ x = cc in subst P same (All-head P y ys all)
     one later false h = later h
 
+-- where nothing is found, no element passes the test
+pub none_found : {X : Type 0} (p : X → Bool) (xs : List X) → is_some (find p xs) ≡ false → All (λ x. p x ≡ false) xs
+none_found {X} p [] h = All-nil (λ (x : X). p x ≡ false)
+none_found {X} p (x ∷ xs) h = one (none_found p xs) (p x) refl h
+  where
+    one : (is_some (find p xs) ≡ false → All (λ (y : X). p y ≡ false) xs) → (b : Bool) → p x ≡ b → is_some (cond b (Some x) (find p xs)) ≡ false → All (λ (y : X). p y ≡ false) (x ∷ xs)
+    one later true is k = absurd (cc)
+    one later false is k = All-cons (λ (y : X). p y ≡ false) x xs is (later k)
+
+-- nor where none is counted
+pub none_counted : {X : Type 0} (p : X → Bool) (xs : List X) → count_by p xs ≡ 0 → All (λ x. p x ≡ false) xs
+none_counted {X} p [] h = All-nil (λ (x : X). p x ≡ false)
+none_counted {X} p (x ∷ xs) h = one (none_counted p xs) (p x) refl (sym (sum_by-cons {X = X} (λ y. cond (p y) 1 0) x xs) ∙ h)
+  where
+    one : (count_by p xs ≡ 0 → All (λ (y : X). p y ≡ false) xs) → (b : Bool) → p x ≡ b → cond (p x) 1 0 + count_by p xs ≡ 0 → All (λ (y : X). p y ≡ false) (x ∷ xs)
+    one later true is k = let some : 1 + count_by p xs ≡ 0 = subst (λ b. cond b 1 0 + count_by p xs ≡ 0) is k in absurd (omega arith)
+    one later false is k = All-cons (λ (y : X). p y ≡ false) x xs is (later (let rest : 0 + count_by p xs ≡ 0 = subst (λ b. cond b 1 0 + count_by p xs ≡ 0) is k in omega arith))
+
 -- what was found is found by a test
 pub any_found : {X : Type 0} (p q : X → Bool) (xs : List X) (x : X) → find p xs ≡ Some x → q x ≡ true → list_any q xs ≡ true
 any_found p q [] x h k = absurd (cc)
@@ -109,12 +137,7 @@ any_found {X} p q (y ∷ xs) x h k = one (λ e. any_found p q xs x e k) (p y) h
 
 -- each kept element passes the test
 pub All-kept : {X : Type 0} (p : X → Bool) (xs : List X) → All (λ x. p x ≡ true) (filter p xs)
-All-kept {X} p [] = All-nil (λ (x : X). p x ≡ true)
-All-kept {X} p (x ∷ xs) = one (All-kept p xs) (p x) refl
-  where
-    one : All (λ (y : X). p y ≡ true) (filter p xs) → (b : Bool) → p x ≡ b → All (λ (y : X). p y ≡ true) (cond b (x ∷ filter p xs) (filter p xs))
-    one later true is = All-cons (λ (y : X). p y ≡ true) x (filter p xs) is later
-    one later false is = later
+All-kept p xs = filter_passes p xs
 
 -- two facts of each element
 pub All-both : {X : Type 0} (P Q : X → Type 0) (xs : List X) → All P xs → All Q xs → All (λ x. P x × Q x) xs
@@ -135,6 +158,15 @@ pairs_take R zero xs p = pairs_none R
     pairs_none R i j d lt le = absurd (omega arith)
 pairs_take R (suc n) [] p = p
 pairs_take {X} R (suc n) (x ∷ xs) p = AllPairs-cons R x (take n xs) (All-take (R x) n xs (pairs_head R x xs p)) (pairs_take R n xs (pairs_tail R x xs p))
+
+-- the relation stays where each element becomes one that stands in it as before
+pub pairs_map : {X : Type 0} (R : X → X → Type 0) (f : X → X) (P : X → Type 0) → ((x y : X) → P x → P y → R x y → R (f x) (f y)) → (xs : List X) → All P xs → AllPairs R xs → AllPairs R (map f xs)
+pairs_map R f P w [] all pairs = pairs
+pairs_map {X} R f P w (x ∷ xs) all pairs =
+    let rest = All-tail P x xs all in
+    AllPairs-cons R (f x) (map f xs)
+    (All-map (R (f x)) f xs (All-weaker (λ (y : X). P y × R x y) (λ (y : X). R (f x) (f y)) (λ y both. w x y (All-head P x xs all) both.0 both.1) xs (All-both P (R x) xs rest (pairs_head R x xs pairs))))
+    (pairs_map R f P w xs rest (pairs_tail R x xs pairs))
 
 -- a lesser number is another one
 pub lesser_is_not : (n m : ℕ) → n < m → (n == m) ≡ false

@@ -50,11 +50,11 @@ bound-flow flows new made held all =
     All-weaker (λ (h : HeldCopy). IsTrue (is_bound_for flows made h)) (λ (h : HeldCopy). IsTrue (is_bound_for (flows ++ new ∷ []) made h))
     (λ h is. any_grows {X = Flow} (λ f. (f.number == h.flow) && list_any (λ (c : MadeCopy). (c.number == h.copy) && (c.endpoint == f.endpoint)) made) flows (new ∷ []) is) held all
 
--- a spooled copy's endpoint is there where an endpoint comes
-pub there-endpoint : (endpoints : List Endpoint) (new : Endpoint) (closed : List ClosedCopy) (made : List MadeCopy) → OpenThere endpoints closed made → OpenThere (endpoints ++ new ∷ []) closed made
-there-endpoint endpoints new closed made all =
-    All-weaker (λ (c : MadeCopy). IsTrue (is_closed closed c.number || is_there endpoints c.endpoint)) (λ (c : MadeCopy). IsTrue (is_closed closed c.number || is_there (endpoints ++ new ∷ []) c.endpoint))
-    (λ c is. or_both (is_closed closed c.number) (is_there endpoints c.endpoint) (is_closed closed c.number) (is_there (endpoints ++ new ∷ []) c.endpoint) (λ k. k) (λ k. any_grows {X = Endpoint} (λ e. e.number == c.endpoint) endpoints (new ∷ []) k) is) made all
+-- a spooled copy's endpoint is there where all that were there are
+pub there-weaker : (endpoints after : List Endpoint) → ((n : ℕ) → is_there endpoints n ≡ true → is_there after n ≡ true) → (closed : List ClosedCopy) (made : List MadeCopy) → OpenThere endpoints closed made → OpenThere after closed made
+there-weaker endpoints after still closed made all =
+    All-weaker (λ (c : MadeCopy). IsTrue (is_closed closed c.number || is_there endpoints c.endpoint)) (λ (c : MadeCopy). IsTrue (is_closed closed c.number || is_there after c.endpoint))
+    (λ c is. or_both (is_closed closed c.number) (is_there endpoints c.endpoint) (is_closed closed c.number) (is_there after c.endpoint) (λ k. k) (still c.endpoint) is) made all
 
 -- where a copy is closed
 pub there-closed : (endpoints : List Endpoint) (closed : List ClosedCopy) (x : ClosedCopy) (made : List MadeCopy) → OpenThere endpoints closed made → OpenThere endpoints (closed ++ x ∷ []) made

@@ -10,6 +10,10 @@ IsBalanced t = t.made ≡ t.spooled + t.accepted + t.moved + t.discarded
 
 abbrev pub TellsBalanced : Reply → Type 0
 TellsBalanced (replies.Provision endpoint number) = ⊤
+TellsBalanced (replies.Deprovision endpoint) = ⊤
+TellsBalanced (replies.Change endpoint) = ⊤
+TellsBalanced (replies.Subscribe endpoint) = ⊤
+TellsBalanced (replies.Unsubscribe endpoint) = ⊤
 TellsBalanced (replies.Publish message copies) = ⊤
 TellsBalanced (replies.Bind endpoint flow discarded) = ⊤
 TellsBalanced (replies.Unbind flow closed returned) = ⊤

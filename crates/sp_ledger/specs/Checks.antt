@@ -1,5 +1,5 @@
 -- Rules that a request may break, and the one that is told.
-use Rattle.std.specs.Prelude.{ℕ, ◌^◌, Bool, List, [], ◌∷◌, Option, Some, None, nat_lt, nat_le, if◌then◌else◌}
+use Rattle.std.specs.Prelude.{ℕ, ◌+◌, ◌^◌, Bool, List, [], ◌∷◌, Option, Some, None, nat_lt, nat_le, if◌then◌else◌}
 use Rattle.sp_base.specs.declared.refusal.Kind.{Kind}
 use Rattle.sp_base.specs.declared.refusal.Kind.TheVariants as kinds
 use Rattle.sp_base.specs.declared.refusal.Refusal.{Refusal}
@@ -19,6 +19,6 @@ first_refusal (check ∷ rest) = if check.broken then Some check.refusal else fi
 abbrev pub is_spent : ℕ → Kind → Check
 is_spent next k = record { broken = nat_le (2 ^ 62) next; refusal = IdsSpent k }
 
--- a publish draws no copy number above 2^61
+-- a publish draws no copy number above 2^61; this is the next number after it
 abbrev pub is_copy_spent : ℕ → Check
-is_copy_spent last = record { broken = nat_lt (2 ^ 61) last; refusal = IdsSpent kinds.Copy }
+is_copy_spent next = record { broken = nat_lt (2 ^ 61 + 1) next; refusal = IdsSpent kinds.Copy }

@@ -28,6 +28,10 @@ FateHolds H copy fates.Earlier = is_closed H.closed copy ≡ true
 -- what a reply tells of copies holds
 abbrev pub IsTold : History → Reply → Type 0
 IsTold H (replies.Provision endpoint number) = ⊤
+IsTold H (replies.Deprovision endpoint) = ⊤
+IsTold H (replies.Change endpoint) = ⊤
+IsTold H (replies.Subscribe endpoint) = ⊤
+IsTold H (replies.Unsubscribe endpoint) = ⊤
 IsTold H (replies.Publish message copies) = All (λ told. (is_made H.made told.copy ≡ true) × FateHolds H told.copy told.fate) copies
 IsTold H (replies.Bind endpoint flow discarded) = ⊤
 IsTold H (replies.Unbind flow closed returned) = All (λ told. FateHolds H told.copy told.fate) closed

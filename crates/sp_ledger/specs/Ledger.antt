@@ -1,12 +1,20 @@
 -- The ledger: everything that was ever published, made and closed, and who may take it.
-use Rattle.std.specs.Prelude.{ℕ, ◌==◌, ◌&&◌, Bool, false, List, [], find, Option, option_map, bytes_eq}
+use Rattle.std.specs.Prelude.{ℕ, ◌==◌, ◌&&◌, Bool, true, false, List, [], map, find, Option, option_map, bytes_eq, if◌then◌else◌}
 use Rattle.sp_message.specs.declared.message.Message.{Message}
 use Rattle.sp_copies.specs.History.{History, empty_history, used_bytes}
+use Rattle.sp_config.specs.Attributes.{AttributesView}
+use Rattle.sp_config.specs.declared.kind.EndpointKind.{EndpointKind}
+use Rattle.sp_config.specs.declared.kind.EndpointKind.TheVariants.{Queue, TopicEndpoint}
 
--- a queue that is there
+-- a queue or topic endpoint that is there, with the texts that a queue subscribes to, and the topic
+-- that a topic endpoint has from its first bind on
 pub record Endpoint : Type 0 where
   pub number : ℕ
   pub name : List ℕ
+  pub kind : EndpointKind
+  pub attributes : AttributesView
+  pub subscriptions : List (List ℕ)
+  pub topic : Option (List ℕ)
 
 -- a message that was published, at its moment
 pub record Published : Type 0 where
@@ -73,6 +81,18 @@ empty_ledger next copy = record {
 -- the endpoint of a name, where it is there
 abbrev pub named : List ℕ → List Endpoint → Option Endpoint
 named name endpoints = find (λ e. bytes_eq e.name name) endpoints
+
+abbrev pub is_queue : EndpointKind → Bool
+is_queue Queue = true
+is_queue TopicEndpoint = false
+
+-- the queue of a name, where it is there
+abbrev pub queue_named : List ℕ → List Endpoint → Option Endpoint
+queue_named name endpoints = find (λ e. is_queue e.kind && bytes_eq e.name name) endpoints
+
+-- the endpoints with this one in the place of the one of its number
+abbrev pub replaced : Endpoint → List Endpoint → List Endpoint
+replaced new endpoints = map (λ e. if e.number == new.number then new else e) endpoints
 
 -- the flow of a number, where it is bound and the caller's
 abbrev pub flow_of : List Flow → List ℕ → ℕ → Option Flow

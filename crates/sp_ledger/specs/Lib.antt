@@ -1,7 +1,9 @@
 pub mod Answer
 pub mod Balance
 pub mod Bind
+pub mod Change
 pub mod Checks
+pub mod Deprovision
 pub mod Extends
 pub mod Ledger
 pub mod One
@@ -12,4 +14,7 @@ pub mod Pull
 pub mod Settle
 pub mod Sound
 pub mod Step
+pub mod Subscribe
+pub mod Targets
 pub mod Unbind
+pub mod Uses

@@ -1,5 +1,6 @@
 -- What every ledger of a run has.
-use Rattle.std.specs.Prelude.{◌≤◌, ◌<◌, ℕ, ◌+◌, ◌^◌, All, AllPairs, IsTrue, is_some}
+use Rattle.std.specs.Prelude.{◌≡◌, ◌≤◌, ◌<◌, ℕ, ◌+◌, ◌^◌, false, All, AllPairs, IsTrue, is_some, bytes_eq}
+use Rattle.sp_config.specs.Attributes.{AreInRange}
 use Rattle.sp_copies.specs.History.{used_bytes}
 use Rattle.sp_copies.specs.Sound.{IsSoundHistory}
 use Rattle.sp_ledger.specs.Ledger.{Ledger, message_of}
@@ -15,7 +16,11 @@ pub record IsSound (L : Ledger) : Type 0 where
   -- each endpoint's number stands once and is below the next one
   pub endpoints_rise : AllPairs (λ d e. d.number < e.number) L.endpoints
   pub endpoints_below : All (λ e. e.number < L.next.endpoint) L.endpoints
-  -- so does each message's and each flow's
+  -- no two endpoints have one name
+  pub names_differ : AllPairs (λ d e. bytes_eq d.name e.name ≡ false) L.endpoints
+  -- each endpoint's attributes are in their ranges
+  pub endpoint_ranges : All (λ e. AreInRange e.attributes) L.endpoints
+  -- each message's number stands once and is below the next one, and so does each flow's
   pub messages_rise : AllPairs (λ m n. m.number < n.number) L.messages
   pub messages_below : All (λ m. m.number < L.next.message) L.messages
   pub flows_rise : AllPairs (λ f g. f.number < g.number) L.flows

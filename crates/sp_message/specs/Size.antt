@@ -2,11 +2,12 @@
 use Rattle.std.specs.Prelude.{ℕ, ◌+◌, List, length}
 use Rattle.sp_message.specs.declared.message.Message.{Message}
 use Rattle.sp_message.specs.declared.message.Dest.{Dest}
-use Rattle.sp_message.specs.declared.message.Dest.TheVariants.{Queue}
+use Rattle.sp_message.specs.declared.message.Dest.TheVariants.{Topic, Queue}
 use Rattle.sp_message.specs.Property.{properties_size}
 
 -- the bytes of the destination's text
 abbrev pub dest_bytes : Dest → List ℕ
+dest_bytes (Topic topic) = topic
 dest_bytes (Queue name) = name
 
 -- 64 bytes, and those of the destination, the payload and the properties

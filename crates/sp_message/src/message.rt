@@ -4,11 +4,14 @@ ghost use Rattle.sp_message.specs.Size.{size_of, dest_bytes};
 use crate::payload::Payload;
 use crate::property::Properties;
 use sp_base::name::Name;
+use sp_base::topic::Topic;
 use std::alloc::{AllocError, Global};
 
 /// Where a message goes.
 #[derive(Debug, Drop)]
 pub enum Dest {
+    /// To the endpoints that take this topic.
+    Topic(Topic),
     /// To the queue of this name.
     Queue(Name),
 }
@@ -17,9 +20,10 @@ impl Dest {
     /// The destination's bytes.
     pub fn as_bytes(&self) -> &[u8]
         ensures value { result.now ≡ dest_bytes self.now }
-        ensures bound { length result.now ≤ 200 }
+        ensures bound { length result.now ≤ 250 }
     {
         match self {
+            Dest::Topic(topic) => topic.as_bytes(),
             Dest::Queue(name) => name.as_bytes(),
         }
     }
@@ -29,6 +33,7 @@ impl Dest {
         ensures { IfOk result (λ d. d ≡ self.now) }
     {
         match self {
+            Dest::Topic(topic) => Ok(Dest::Topic(topic.copy(alloc)?)),
             Dest::Queue(name) => Ok(Dest::Queue(name.copy(alloc)?)),
         }
     }
@@ -51,7 +56,7 @@ impl Message {
     /// each property 16, its name's and its text value's.
     pub fn size(&self) -> u64
         ensures size { result ≡ size_of self.now }
-        ensures bound { result ≤ 8918280 }
+        ensures bound { result ≤ 8918330 }
     {
         64 + self.dest.as_bytes().len() as u64
             + self.payload.as_slice().len() as u64

@@ -5,6 +5,7 @@ use crate::value::{Fixed, Value};
 use sp_base::bytes::Bytes;
 use sp_base::name::Name;
 use sp_base::text::Str;
+use sp_base::topic::Topic;
 use std::alloc::Global;
 use std::test::Fail;
 
@@ -39,6 +40,21 @@ fn hello_to_q1_has_71_bytes(rt: HostRuntime) -> Result<(), Fail> {
     let message = hello(alloc, Properties::none(alloc))?;
     assert_eq!(rt; message.size(), 71);
     assert_eq!(rt; message.copy(alloc)?.size(), 71);
+    Ok(())
+}
+
+// 64, and 1 for the topic.
+#[test]
+fn an_empty_message_on_topic_t_has_65_bytes(rt: HostRuntime) -> Result<(), Fail> {
+    let alloc = rt.alloc();
+    let message = Message {
+        dest: Dest::Topic(Topic::read(alloc, b"t")?),
+        payload: Payload::from_bytes(Bytes::copy_of(alloc, b"")?),
+        ttl: 0,
+        eligible: false,
+        properties: Properties::none(alloc),
+    };
+    assert_eq!(rt; message.copy(alloc)?.size(), 65);
     Ok(())
 }
 

@@ -119,6 +119,10 @@ went L s (t ∷ ts) r =
 
 reply_holds : (M : Ledger) → IsSound M → (r : Reply) → IsTold M.copies r → TellsBalanced r → ReplyHolds M r
 reply_holds M s (replies.Provision endpoint n) told balanced = tt
+reply_holds M s (replies.Deprovision endpoint) told balanced = tt
+reply_holds M s (replies.Change endpoint) told balanced = tt
+reply_holds M s (replies.Subscribe endpoint) told balanced = tt
+reply_holds M s (replies.Unsubscribe endpoint) told balanced = tt
 reply_holds M s (replies.Publish message copies) told balanced = All-weaker (λ (c : PublishedCopy). (is_made M.copies.made c.copy ≡ true) × FateHolds M.copies c.copy c.fate) (λ (c : PublishedCopy). HasOneFate M.copies c.copy) (λ c is. one_fate M.copies s.copies c.copy is.0) copies told
 reply_holds M s (replies.Bind endpoint flow discarded) told balanced = tt
 reply_holds M s (replies.Unbind flow closed returned) told balanced = tt

@@ -13,6 +13,10 @@ use Rattle.sp_ledger.specs.Ledger.{Ledger}
 -- each tally is the sum of its parts
 abbrev pub ReplyHolds : Ledger → Reply → Type 0
 ReplyHolds M (replies.Provision endpoint number) = ⊤
+ReplyHolds M (replies.Deprovision endpoint) = ⊤
+ReplyHolds M (replies.Change endpoint) = ⊤
+ReplyHolds M (replies.Subscribe endpoint) = ⊤
+ReplyHolds M (replies.Unsubscribe endpoint) = ⊤
 ReplyHolds M (replies.Publish message copies) = All (λ told. HasOneFate M.copies told.copy) copies
 ReplyHolds M (replies.Bind endpoint flow discarded) = ⊤
 ReplyHolds M (replies.Unbind flow closed returned) = ⊤

@@ -12,4 +12,6 @@ pub mod run_tape;
 pub mod status;
 #[cfg(test)]
 mod tests;
+#[cfg(test)]
+mod topic_tests;
 pub mod turn;

@@ -1,11 +1,13 @@
 // Units are carried out.
-ghost use Rattle.std.specs.Prelude.{◌≡◌, ◌≤◌, ◌<◌, ◌+◌, ℕ, ◌^◌, length, All, AllPairs, true};
-ghost use Rattle.sp_copies.specs.History.{is_free, is_held, is_spooled, used_bytes};
+ghost use Rattle.std.specs.Prelude.{◌≡◌, ◌≤◌, ◌<◌, length, All, AllPairs, true};
+ghost use Rattle.sp_copies.specs.History.{is_free, is_held, is_spooled};
 ghost use Rattle.sp_copies.specs.Kept.{Records};
 ghost use Rattle.sp_core.specs.Decided.{IsPrepared, CarriesOut};
-ghost use Rattle.sp_core.specs.Plan.{unit_of, bound_row, carried_out, handed_over, HasRoom, Fits};
+ghost use Rattle.sp_core.specs.Plan.{unit_of, bound_row, carried_out, handed_over, row_added, row_removed, row_replaced, spread, HasRoom, Fits, MayBeClosed, MayBeMade};
 ghost use Rattle.sp_core.specs.Stands.{Stands};
+ghost use Rattle.sp_ledger.specs.Bind.{all_discarded};
 ghost use Rattle.sp_ledger.specs.Ledger.{Ledger};
+ghost use Rattle.sp_ledger.specs.Publish.{all_made};
 ghost use Rattle.sp_ledger.specs.Pull.{all_handed_out};
 ghost use Rattle.sp_ledger.specs.Settle.{settled};
 ghost use Rattle.sp_ledger.specs.Sound.{IsSound};
@@ -18,8 +20,8 @@ use crate::rows::{Endpoint, Flow, Published};
 use crate::state::Core;
 use sp_base::items::Items;
 use sp_base::moment::Moment;
-use sp_base::number::{CopyNo, FlowNo};
-use sp_copies::closed::Closing;
+use sp_base::number::{CopyNo, EndpointNo, FlowNo};
+use sp_copies::closed::{Cause, Closing};
 use sp_copies::copies::Copies;
 use sp_copies::made::{MadeCopy, NewCopy};
 use sp_event::answer::Reply;
@@ -50,9 +52,23 @@ impl Core {
         ensures { (L : Ledger) → Stands self.old L → Stands self.new (carried_out moment plan L) }
     {
         match plan {
-            Plan::Provision { row } => self.add_endpoint(moment, row),
-            Plan::Publish { row, copy } => self.add_message(moment, row, copy),
-            Plan::Bind { endpoint: _, row } => self.add_flow(moment, row),
+            Plan::Provision { row, attributes: _ } => self.add_endpoint(moment, row),
+            Plan::Deprovision { name: _, number } => self.remove_endpoint(moment, number),
+            Plan::Change { row, attributes: _ } => self.replace_endpoint(moment, row),
+            Plan::Subscribe {
+                row,
+                subscription: _,
+            } => self.replace_endpoint(moment, row),
+            Plan::Unsubscribe {
+                row,
+                subscription: _,
+            } => self.replace_endpoint(moment, row),
+            Plan::Publish { row, copies } => self.add_message(moment, row, copies),
+            Plan::Bind {
+                endpoint,
+                row,
+                copies,
+            } => self.bind_flow(moment, endpoint, row, copies),
             Plan::Unbind { flow, copies } => self.take_flow(moment, flow, copies),
             Plan::Pull {
                 flow,
@@ -70,8 +86,8 @@ impl Core {
 
     fn add_endpoint(&mut self, moment: Moment, row: Endpoint)
         requires room { 0 < self.old.endpoint_room }
-        requires sound { (L : Ledger) → Stands self.old L → IsSound (carried_out moment (Plan.Provision row) L) }
-        ensures { (L : Ledger) → Stands self.old L → Stands self.new (carried_out moment (Plan.Provision row) L) }
+        requires sound { (L : Ledger) → Stands self.old L → IsSound (row_added moment row L) }
+        ensures { (L : Ledger) → Stands self.old L → Stands self.new (row_added moment row L) }
     {
         self.endpoints.add(row);
         self.next.endpoint += 1;
@@ -79,28 +95,50 @@ impl Core {
         self.clock = self.clock.max(moment);
     }
 
-    fn add_message(&mut self, moment: Moment, row: Published, copy: NewCopy)
-        requires room { (0 < self.old.message_room) × (0 < self.old.copies.spare) }
-        requires fits { (L : Ledger) → Stands self.old L → used_bytes L.copies copy.endpoint + copy.size ≤ 2 ^ 40 }
-        requires sound { (L : Ledger) → Stands self.old L → IsSound (carried_out moment (Plan.Publish row copy) L) }
-        ensures { (L : Ledger) → Stands self.old L → Stands self.new (carried_out moment (Plan.Publish row copy) L) }
+    fn remove_endpoint(&mut self, moment: Moment, number: EndpointNo)
+        requires { (L : Ledger) → Stands self.old L → IsSound (row_removed moment number L) }
+        ensures { (L : Ledger) → Stands self.old L → Stands self.new (row_removed moment number L) }
+    {
+        self.endpoints.remove(number);
+        self.next.unit += 1;
+        self.clock = self.clock.max(moment);
+    }
+
+    fn replace_endpoint(&mut self, moment: Moment, row: Endpoint)
+        requires { (L : Ledger) → Stands self.old L → IsSound (row_replaced moment row L) }
+        ensures { (L : Ledger) → Stands self.old L → Stands self.new (row_replaced moment row L) }
+    {
+        self.endpoints.replace(row);
+        self.next.unit += 1;
+        self.clock = self.clock.max(moment);
+    }
+
+    fn add_message(&mut self, moment: Moment, row: Published, copies: Items<NewCopy>)
+        requires messages { 0 < self.old.message_room }
+        requires copies { length copies ≤ self.old.copies.spare }
+        requires fits { (L : Ledger) → Stands self.old L → MayBeMade copies L.copies }
+        requires sound { (L : Ledger) → Stands self.old L → IsSound (spread moment row copies L) }
+        ensures { (L : Ledger) → Stands self.old L → Stands self.new (spread moment row copies L) }
     {
         self.messages.add(row);
-        self.copies.make(copy);
+        make_all(&mut self.copies, copies.as_slice());
         self.next.message += 1;
         self.next.unit += 1;
         self.clock = self.clock.max(moment);
     }
 
-    fn add_flow(&mut self, moment: Moment, row: Flow)
+    fn bind_flow(&mut self, moment: Moment, endpoint: Endpoint, row: Flow, copies: Items<CopyNo>)
         requires room { 0 < self.old.flow_room }
-        requires sound { (L : Ledger) → Stands self.old L → IsSound (bound_row moment row L) }
-        ensures { (L : Ledger) → Stands self.old L → Stands self.new (bound_row moment row L) }
+        requires fits { (L : Ledger) → Stands self.old L → MayBeClosed copies L.copies }
+        requires sound { (L : Ledger) → Stands self.old L → IsSound (bound_row moment endpoint row copies L) }
+        ensures { (L : Ledger) → Stands self.old L → Stands self.new (bound_row moment endpoint row copies L) }
     {
+        self.clock = self.clock.max(moment);
+        discard_all(&mut self.copies, copies.as_slice(), self.clock);
+        self.endpoints.replace(endpoint);
         self.flows.add(row);
         self.next.flow += 1;
         self.next.unit += 1;
-        self.clock = self.clock.max(moment);
     }
 
     fn take_flow(&mut self, moment: Moment, flow: FlowNo, copies: Items<CopyNo>)
@@ -168,5 +206,28 @@ fn hold_all(copies: &mut Copies, flow: FlowNo, handed: &[MadeCopy])
 {
     for copy in handed {
         copies.hold(copy.number, flow);
+    }
+}
+
+// Each copy is made, in order.
+fn make_all(copies: &mut Copies, made: &[NewCopy])
+    requires known { Records copies.old copies.old.history }
+    requires room { length made.now ≤ copies.old.spare }
+    requires fits { MayBeMade made.now copies.old.history }
+    ensures { Records copies.new (all_made made.now copies.old.history) }
+{
+    for copy in made {
+        copies.make(*copy);
+    }
+}
+
+// Each copy is discarded for another topic, in order.
+fn discard_all(copies: &mut Copies, discarded: &[CopyNo], moment: Moment)
+    requires known { Records copies.old copies.old.history }
+    requires fits { MayBeClosed discarded.now copies.old.history }
+    ensures { Records copies.new (all_discarded moment discarded.now copies.old.history) }
+{
+    for copy in discarded {
+        copies.close(*copy, Closing::Discarded(Cause::TopicChanged), moment);
     }
 }

@@ -1,42 +1,33 @@
 // A message is published.
-ghost use Rattle.std.specs.Prelude.{◌≡◌, ◌≤◌, ◌<◌, ℕ, ◌^◌, max, ◌∷◌, [], IfOk, OnOk, Some, None, IfErr};
-ghost use Rattle.std.specs.Option.{option_map};
-ghost use Rattle.sp_copies.specs.History.{used_bytes};
-ghost use Rattle.sp_message.specs.Size.{dest_bytes};
-ghost use Rattle.sp_core.specs.Decided.{IsPrepared};
+ghost use Rattle.std.specs.Prelude.{◌≡◌, ◌≤◌, ◌<◌, ◌+◌, ◌∷◌, [], length, map, max, IfOk, IfErr, OnOk, None};
+ghost use Rattle.sp_core.specs.Decided.{IsOf, IsPrepared, IsRefused};
 ghost use Rattle.sp_core.specs.Errors.{OnRefused};
-ghost use Rattle.sp_core.specs.Plan.{unit_of};
-ghost use Rattle.sp_core.specs.Rows.{endpoint_row};
 ghost use Rattle.sp_core.specs.Stands.{Stands, IsRoomier};
-ghost use Rattle.sp_ledger.specs.Checks.{first_refusal};
-ghost use Rattle.sp_ledger.specs.Ledger.{Ledger, named};
-ghost use Rattle.sp_ledger.specs.Outcome.{refused};
+ghost use Rattle.sp_core.specs.Targets.{queue_check, target_row};
+ghost use Rattle.sp_ledger.specs.Checks.{first_refusal, is_copy_spent, is_spent};
+ghost use Rattle.sp_ledger.specs.Ledger.{Ledger};
 ghost use Rattle.sp_ledger.specs.Publish.{publish_checks};
-ghost use Rattle.sp_ledger.specs.Step.{unit_step};
+ghost use Rattle.sp_ledger.specs.Targets.{targets};
 
 use crate::errors::PrepareError;
 use crate::plan::Plan;
 use crate::ready::Ready;
-use crate::rows::{Endpoint, Published};
+use crate::refusals::{SPENT, refused};
+use crate::rows::Published;
 use crate::state::Core;
-use crate::state::provision::SPENT;
+use crate::targets::{Target, new_copies, quota_refusal, targets_of, told_copies};
 use sp_base::items::Items;
 use sp_base::moment::Moment;
 use sp_base::name::Name;
-use sp_base::number::{CopyNo, EndpointNo, MessageNo};
+use sp_base::number::MessageNo;
 use sp_base::refusal::{Kind, Refusal};
-use sp_copies::closed::Fate;
-use sp_copies::made::{NewCopy, Origin};
-use sp_event::answer::{PublishedCopy, Reply};
+use sp_event::answer::Reply;
 use sp_event::request::Event;
 use sp_message::message::{Dest, Message};
 use std::alloc::{AllocError, Global};
 
 // The last copy number that a publish draws.
 const LAST_COPY: u64 = 1 << 61;
-
-// The default quota of a queue, in bytes.
-const DEFAULT_QUOTA: u64 = 5000 * 1_048_576;
 
 impl Core {
     pub fn prepare_publish(
@@ -47,107 +38,107 @@ impl Core {
         message: &Message,
     ) -> Result<Ready, PrepareError>
         ensures same { IsRoomier self.old self.new }
-        ensures ready { IfOk result (λ r. IsPrepared self.new r) }
-        ensures request { IfOk result (λ r. (r.moment ≡ now) × (r.caller ≡ from.now) × (unit_of r.plan ≡ Event.Publish message.now ∷ [])) }
-        ensures refused { IfErr result (λ e. OnRefused e (λ refusal.
-            (L : Ledger) → Stands self.old L → unit_step now from.now (Event.Publish message.now ∷ []) L ≡ refused refusal)) }
+        ensures ready { IfOk result (IsPrepared self.new) }
+        ensures request { IfOk result (IsOf now from.now (Event.Publish message.now)) }
+        ensures refused { IfErr result (λ e. OnRefused e (IsRefused self.old now from.now (Event.Publish message.now))) }
     {
-        let Dest::Queue(name) = &message.dest;
-        let Some(queue) = self.endpoint_of(alloc, name)? else {
-            let name = name.text(alloc)?;
-            return Err(PrepareError::Refused {
-                index: 0,
-                refusal: Refusal::UnknownEndpoint { name },
-            });
-        };
-        if let Some(refusal) = self.publish_refusal(alloc, message, &queue)? {
-            return Err(PrepareError::Refused { index: 0, refusal });
+        let targets = self.targets(alloc, &message.dest)?;
+        if let Some(refusal) = self.publish_refusal(alloc, message, targets.as_slice())? {
+            return Err(refused(refusal));
         }
-        Ok(self.ready_publish(alloc, now, from, message, queue)?)
+        self.reserve_publish(targets.len())?;
+        Ok(self.ready_publish(alloc, now, from, message, targets.as_slice())?)
+    }
+
+    // The endpoints to which a message goes, in the byte order of their names.
+    fn targets(&self, alloc: Global, dest: &Dest) -> Result<Items<Target>, AllocError>
+        ensures { IfOk result (λ ts. (L : Ledger) → Stands self.now L → ts ≡ map (target_row L.copies) (targets L dest.now)) }
+    {
+        targets_of(alloc, self.endpoints.as_slice(), &self.copies, dest)
     }
 
     fn publish_refusal(
         &self,
         alloc: Global,
         message: &Message,
-        queue: &Endpoint,
+        takers: &[Target],
     ) -> Result<Option<Refusal>, AllocError>
-        ensures { IfOk result (λ r. (L : Ledger) → Stands self.now L → r ≡ first_refusal (publish_checks L message.now (endpoint_row queue.now))) }
+        requires { (L : Ledger) → Stands self.now L → takers.now ≡ map (target_row L.copies) (targets L message.now.dest) }
+        ensures { IfOk result (λ r. (L : Ledger) → Stands self.now L → r ≡ first_refusal (publish_checks L message.now)) }
     {
-        let used = self.used_in(queue.number);
-        let size = message.size();
-        if used + size > DEFAULT_QUOTA {
-            let name = queue.name.text(alloc)?;
-            return Ok(Some(Refusal::QuotaExceeded {
-                name,
-                used,
-                size,
-                max: DEFAULT_QUOTA,
-            }));
+        if let Some(refusal) = self.queue_refusal(alloc, &message.dest)? {
+            return Ok(Some(refusal));
         }
+        if let Some(refusal) = quota_refusal(alloc, takers, message.size())? {
+            return Ok(Some(refusal));
+        }
+        Ok(self.numbers_refusal(takers.len()))
+    }
+
+    // Whether a message is sent to a queue that isn't there.
+    fn queue_refusal(&self, alloc: Global, dest: &Dest) -> Result<Option<Refusal>, AllocError>
+        ensures { IfOk result (λ r. (L : Ledger) → Stands self.now L → r ≡ first_refusal (queue_check L dest.now ∷ [])) }
+    {
+        match dest {
+            Dest::Topic(_) => Ok(None),
+            Dest::Queue(name) => self.missing_queue(alloc, name),
+        }
+    }
+
+    fn missing_queue(&self, alloc: Global, name: &Name) -> Result<Option<Refusal>, AllocError>
+        ensures { IfOk result (λ r. (L : Ledger) → Stands self.now L → r ≡ first_refusal (queue_check L (Dest.Queue name.now) ∷ [])) }
+    {
+        if self.find_queue(name).is_some() {
+            return Ok(None);
+        }
+        Ok(Some(Refusal::UnknownEndpoint {
+            name: name.text(alloc)?,
+        }))
+    }
+
+    // Whether the numbers that a publish of this many copies draws are drawn.
+    fn numbers_refusal(&self, copies: usize) -> Option<Refusal>
+        ensures { (L : Ledger) → Stands self.now L → result ≡ first_refusal (is_spent L.next.message Kind.Message ∷ is_copy_spent (L.copies.next + copies) ∷ is_spent L.next.unit Kind.Unit ∷ []) }
+    {
         if self.next_message() >= SPENT {
-            return Ok(Some(Refusal::IdsSpent {
+            return Some(Refusal::IdsSpent {
                 kind: Kind::Message,
-            }));
+            });
         }
-        if self.next_copy() > LAST_COPY {
-            return Ok(Some(Refusal::IdsSpent { kind: Kind::Copy }));
+        if self.next_copy().saturating_add(copies as u64) > LAST_COPY + 1 {
+            return Some(Refusal::IdsSpent { kind: Kind::Copy });
         }
-        if self.next_unit() >= SPENT {
-            return Ok(Some(Refusal::IdsSpent { kind: Kind::Unit }));
-        }
-        Ok(None)
+        self.unit_refusal()
     }
 
     // A publish that isn't refused.
     fn ready_publish(
-        &mut self,
+        &self,
         alloc: Global,
         now: Moment,
         from: &Name,
         message: &Message,
-        queue: Endpoint,
+        takers: &[Target],
     ) -> Result<Ready, AllocError>
-        requires found { (L : Ledger) → Stands self.old L → named (dest_bytes message.now.dest) L.endpoints ≡ Some (endpoint_row queue) }
-        requires passes { (L : Ledger) → Stands self.old L → first_refusal (publish_checks L message.now (endpoint_row queue)) ≡ None }
-        ensures same { IsRoomier self.old self.new }
-        ensures ready { IfOk result (λ r. IsPrepared self.new r) }
-        ensures request { IfOk result (λ r. (r.moment ≡ now) × (r.caller ≡ from.now) × (unit_of r.plan ≡ Event.Publish message.now ∷ [])) }
+        requires messages { 0 < self.now.message_room }
+        requires copies { length takers.now ≤ self.now.copies.spare }
+        requires takers { (L : Ledger) → Stands self.now L → takers.now ≡ map (target_row L.copies) (targets L message.now.dest) }
+        requires passes { (L : Ledger) → Stands self.now L → first_refusal (publish_checks L message.now) ≡ None }
+        ensures ready { IfOk result (IsPrepared self.now) }
+        ensures request { IfOk result (IsOf now from.now (Event.Publish message.now)) }
     {
-        self.reserve_publish()?;
         let number = MessageNo::new(self.next_message());
-        let copy = NewCopy {
-            endpoint: queue.number,
-            message: number,
-            size: message.size(),
-            origin: Origin::Published,
-            deadline: None,
-            partition: 0,
-        };
         let row = Published {
             number,
             message: message.copy(alloc)?,
             moment: self.later(now),
         };
-        let told = PublishedCopy {
-            copy: CopyNo::new(self.next_copy()),
-            endpoint: queue.name,
-            fate: Fate::Spooled,
-        };
+        let copies = new_copies(alloc, takers, number, message.size())?;
         let reply = Reply::Publish {
             message: number,
-            copies: Items::one(alloc, told)?,
+            copies: told_copies(alloc, takers, self.copies.next())?,
         };
-        let replies = Items::one(alloc, reply)?.into_vec();
-        let caller = from.copy(alloc)?;
-        Ok(Ready::new(now, caller, Plan::Publish { row, copy }, replies))
-    }
-
-    fn used_in(&self, endpoint: EndpointNo) -> u64
-        ensures value { (L : Ledger) → Stands self.now L → result ≡ used_bytes L.copies endpoint }
-        ensures bound { result ≤ 2 ^ 40 }
-    {
-        self.copies.used(endpoint)
+        Ready::of_one(alloc, now, from, Plan::Publish { row, copies }, reply)
     }
 
     fn next_message(&self) -> u64
@@ -162,13 +153,13 @@ impl Core {
         self.copies.next()
     }
 
-    fn reserve_publish(&mut self) -> Result<(), AllocError>
+    fn reserve_publish(&mut self, copies: usize) -> Result<(), AllocError>
         ensures same { IsRoomier self.old self.new }
         ensures messages { OnOk result (0 < self.new.message_room) }
-        ensures copies { OnOk result (0 < self.new.copies.spare) }
+        ensures copies { OnOk result (copies ≤ self.new.copies.spare) }
     {
         self.reserve_message()?;
-        self.reserve_copy()
+        self.reserve_copies(copies)
     }
 
     fn reserve_message(&mut self) -> Result<(), AllocError>
@@ -178,10 +169,10 @@ impl Core {
         self.messages.reserve(1)
     }
 
-    fn reserve_copy(&mut self) -> Result<(), AllocError>
+    fn reserve_copies(&mut self, more: usize) -> Result<(), AllocError>
         ensures same { IsRoomier self.old self.new }
-        ensures room { OnOk result (0 < self.new.copies.spare) }
+        ensures room { OnOk result (more ≤ self.new.copies.spare) }
     {
-        self.copies.reserve(1)
+        self.copies.reserve(more)
     }
 }

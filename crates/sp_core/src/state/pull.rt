@@ -1,32 +1,28 @@
 // A flow is handed out copies.
-ghost use Rattle.std.specs.Prelude.{◌≡◌, ◌<◌, ℕ, ◌^◌, ◌∷◌, ◌++◌, [], length, IfOk, OnOk, is_some, IfErr, None, Some, option_map};
-ghost use Rattle.sp_core.specs.Decided.{IsPrepared};
+ghost use Rattle.std.specs.Prelude.{◌≡◌, ◌<◌, ◌^◌, ◌++◌, [], length, IfOk, IfErr, OnOk, None, Some, option_map};
+ghost use Rattle.sp_core.specs.Decided.{IsOf, IsPrepared, IsRefused};
 ghost use Rattle.sp_core.specs.Errors.{OnRefused};
-ghost use Rattle.sp_core.specs.Plan.{pulled_of, unit_of};
-ghost use Rattle.sp_core.specs.Stands.{Stands, IsRoomier};
+ghost use Rattle.sp_core.specs.Plan.{pulled_of};
+ghost use Rattle.sp_core.specs.Stands.{Stands};
 ghost use Rattle.sp_ledger.specs.Checks.{first_refusal};
-ghost use Rattle.sp_ledger.specs.Outcome.{refused};
-ghost use Rattle.sp_ledger.specs.Step.{unit_step};
 ghost use Rattle.std.specs.List.{cons_option};
 ghost use Rattle.std.specs.Option.{option_copied};
 ghost use Rattle.sp_copies.specs.History.{attempts_of};
 ghost use Rattle.sp_core.specs.Rows.{message_row};
-ghost use Rattle.sp_ledger.specs.Ledger.{Ledger, Flow, message_of};
+ghost use Rattle.sp_ledger.specs.Ledger.{Ledger, Flow, flow_of, message_of};
 ghost use Rattle.sp_ledger.specs.Pull.{delivered, deliveries, pull_checks, pulled};
 
 use crate::errors::PrepareError;
 use crate::look::find_message;
 use crate::plan::Plan;
 use crate::ready::Ready;
+use crate::refusals::{SPENT, units_spent, unknown_flow};
 use crate::rows::Published;
 use crate::state::Core;
-use crate::state::provision::SPENT;
-use crate::state::unbind::{units_spent, unknown_flow};
 use sp_base::items::Items;
 use sp_base::moment::Moment;
 use sp_base::name::Name;
 use sp_base::number::{CopyNo, EndpointNo, FlowNo, MessageNo};
-use sp_base::refusal::Refusal;
 use sp_copies::made::MadeCopy;
 use sp_event::answer::{Delivery, Reply};
 use sp_event::request::Event;
@@ -44,10 +40,9 @@ impl Core {
         flow: FlowNo,
         count: u64,
     ) -> Result<Ready, PrepareError>
-        ensures ready { IfOk result (λ r. IsPrepared self.now r) }
-        ensures request { IfOk result (λ r. (r.moment ≡ now) × (r.caller ≡ from.now) × (unit_of r.plan ≡ Event.Pull flow count ∷ [])) }
-        ensures refused { IfErr result (λ e. OnRefused e (λ refusal.
-            (L : Ledger) → Stands self.now L → unit_step now from.now (Event.Pull flow count ∷ []) L ≡ refused refusal)) }
+        ensures ready { IfOk result (IsPrepared self.now) }
+        ensures request { IfOk result (IsOf now from.now (Event.Pull flow count)) }
+        ensures refused { IfErr result (λ e. OnRefused e (IsRefused self.now now from.now (Event.Pull flow count))) }
     {
         let Some(copies) = self.pulled_by(alloc, now, from, flow, count)? else {
             return Err(unknown_flow(flow));
@@ -77,6 +72,14 @@ impl Core {
         };
         let copies = self.pulled(alloc, endpoint, flow, count, now)?;
         Ok(Some(copies))
+    }
+
+    // The endpoint to which a flow of a caller is bound.
+    fn endpoint_bound(&self, caller: &Name, flow: FlowNo) -> Option<EndpointNo>
+        ensures { (L : Ledger) → Stands self.now L → result ≡ option_map (λ f. f.endpoint) (flow_of L.flows caller.now flow) }
+    {
+        let found = self.find_bound(caller, flow)?;
+        Some(found.endpoint)
     }
 
     // As many copies as are asked for, and as the window leaves.
@@ -110,8 +113,8 @@ impl Core {
         count: u64,
     ) -> Result<Ready, AllocError>
         requires { (L : Ledger) → Stands self.now L → pulled_of now from.now flow count L ≡ Some [] }
-        ensures ready { IfOk result (λ r. IsPrepared self.now r) }
-        ensures request { IfOk result (λ r. (r.moment ≡ now) × (r.caller ≡ from.now) × (unit_of r.plan ≡ Event.Pull flow count ∷ [])) }
+        ensures ready { IfOk result (IsPrepared self.now) }
+        ensures request { IfOk result (IsOf now from.now (Event.Pull flow count)) }
     {
         let reply = Reply::Pull {
             flow,
@@ -133,8 +136,8 @@ impl Core {
         requires some { 0 < length copies }
         requires found { (L : Ledger) → Stands self.now L → pulled_of now from.now flow count L ≡ Some copies }
         requires passes { (L : Ledger) → Stands self.now L → first_refusal (pull_checks L) ≡ None }
-        ensures ready { IfOk result (λ r. IsPrepared self.now r) }
-        ensures request { IfOk result (λ r. (r.moment ≡ now) × (r.caller ≡ from.now) × (unit_of r.plan ≡ Event.Pull flow count ∷ [])) }
+        ensures ready { IfOk result (IsPrepared self.now) }
+        ensures request { IfOk result (IsOf now from.now (Event.Pull flow count)) }
     {
         let reply = Reply::Pull {
             flow,

@@ -1,12 +1,9 @@
 // A flow settles a copy that it holds.
-ghost use Rattle.std.specs.Prelude.{◌≡◌, ◌<◌, ℕ, ◌∷◌, [], IfOk, OnOk, is_some, IfErr, None, Some, true};
-ghost use Rattle.sp_core.specs.Decided.{IsPrepared};
+ghost use Rattle.std.specs.Prelude.{◌≡◌, ℕ, IfOk, IfErr, is_some, None, true};
+ghost use Rattle.sp_core.specs.Decided.{IsOf, IsPrepared, IsRefused};
 ghost use Rattle.sp_core.specs.Errors.{OnRefused};
-ghost use Rattle.sp_core.specs.Plan.{unit_of};
-ghost use Rattle.sp_core.specs.Stands.{Stands, IsRoomier};
+ghost use Rattle.sp_core.specs.Stands.{Stands};
 ghost use Rattle.sp_ledger.specs.Checks.{first_refusal};
-ghost use Rattle.sp_ledger.specs.Outcome.{refused};
-ghost use Rattle.sp_ledger.specs.Step.{unit_step};
 ghost use Rattle.sp_copies.specs.History.{is_held_by};
 ghost use Rattle.sp_ledger.specs.Ledger.{Ledger, flow_of};
 ghost use Rattle.sp_ledger.specs.Settle.{settle_checks, settled};
@@ -14,13 +11,12 @@ ghost use Rattle.sp_ledger.specs.Settle.{settle_checks, settled};
 use crate::errors::PrepareError;
 use crate::plan::Plan;
 use crate::ready::Ready;
+use crate::refusals::{refused, unknown_flow};
 use crate::state::Core;
-use crate::state::provision::SPENT;
-use crate::state::unbind::unknown_flow;
 use sp_base::moment::Moment;
 use sp_base::name::Name;
 use sp_base::number::{CopyNo, FlowNo};
-use sp_base::refusal::{Kind, Refusal};
+use sp_base::refusal::Refusal;
 use sp_copies::closed::Fate;
 use sp_event::answer::Reply;
 use sp_event::request::{Event, Outcome};
@@ -36,16 +32,15 @@ impl Core {
         copy: CopyNo,
         outcome: Outcome,
     ) -> Result<Ready, PrepareError>
-        ensures ready { IfOk result (λ r. IsPrepared self.now r) }
-        ensures request { IfOk result (λ r. (r.moment ≡ now) × (r.caller ≡ from.now) × (unit_of r.plan ≡ Event.Settle flow copy outcome ∷ [])) }
-        ensures refused { IfErr result (λ e. OnRefused e (λ refusal.
-            (L : Ledger) → Stands self.now L → unit_step now from.now (Event.Settle flow copy outcome ∷ []) L ≡ refused refusal)) }
+        ensures ready { IfOk result (IsPrepared self.now) }
+        ensures request { IfOk result (IsOf now from.now (Event.Settle flow copy outcome)) }
+        ensures refused { IfErr result (λ e. OnRefused e (IsRefused self.now now from.now (Event.Settle flow copy outcome))) }
     {
         if !self.is_bound(from, flow) {
             return Err(unknown_flow(flow));
         }
         if let Some(refusal) = self.settle_refusal(flow, copy) {
-            return Err(PrepareError::Refused { index: 0, refusal });
+            return Err(refused(refusal));
         }
         Ok(self.ready_settle(alloc, now, from, flow, copy, outcome)?)
     }
@@ -56,10 +51,7 @@ impl Core {
         if !self.holds(flow, copy) {
             return Some(Refusal::NotHeld { copy: copy.value() });
         }
-        if self.next_unit() >= SPENT {
-            return Some(Refusal::IdsSpent { kind: Kind::Unit });
-        }
-        None
+        self.unit_refusal()
     }
 
     fn holds(&self, flow: FlowNo, copy: CopyNo) -> bool
@@ -80,8 +72,8 @@ impl Core {
     ) -> Result<Ready, AllocError>
         requires found { (L : Ledger) → Stands self.now L → is_some (flow_of L.flows from.now flow) ≡ true }
         requires passes { (L : Ledger) → Stands self.now L → first_refusal (settle_checks L flow copy) ≡ None }
-        ensures ready { IfOk result (λ r. IsPrepared self.now r) }
-        ensures request { IfOk result (λ r. (r.moment ≡ now) × (r.caller ≡ from.now) × (unit_of r.plan ≡ Event.Settle flow copy outcome ∷ [])) }
+        ensures ready { IfOk result (IsPrepared self.now) }
+        ensures request { IfOk result (IsOf now from.now (Event.Settle flow copy outcome)) }
     {
         let reply = Reply::Settle {
             copy,

@@ -1,12 +1,9 @@
 // A flow gives back what it holds, and goes.
-ghost use Rattle.std.specs.Prelude.{◌≡◌, ◌<◌, ℕ, ◌∷◌, [], IfOk, OnOk, is_some, IfErr, None, Some, true};
-ghost use Rattle.sp_core.specs.Decided.{IsPrepared};
+ghost use Rattle.std.specs.Prelude.{◌≡◌, IfOk, IfErr, is_some, None, true};
+ghost use Rattle.sp_core.specs.Decided.{IsOf, IsPrepared, IsRefused};
 ghost use Rattle.sp_core.specs.Errors.{OnRefused};
-ghost use Rattle.sp_core.specs.Plan.{unit_of};
-ghost use Rattle.sp_core.specs.Stands.{Stands, IsRoomier};
+ghost use Rattle.sp_core.specs.Stands.{Stands};
 ghost use Rattle.sp_ledger.specs.Checks.{first_refusal};
-ghost use Rattle.sp_ledger.specs.Outcome.{refused};
-ghost use Rattle.sp_ledger.specs.Step.{unit_step};
 ghost use Rattle.sp_copies.specs.History.{held_by};
 ghost use Rattle.sp_ledger.specs.Ledger.{Ledger, flow_of};
 ghost use Rattle.sp_ledger.specs.Unbind.{unbind_checks};
@@ -14,13 +11,12 @@ ghost use Rattle.sp_ledger.specs.Unbind.{unbind_checks};
 use crate::errors::PrepareError;
 use crate::plan::Plan;
 use crate::ready::Ready;
+use crate::refusals::{SPENT, units_spent, unknown_flow};
 use crate::state::Core;
-use crate::state::provision::SPENT;
 use sp_base::items::Items;
 use sp_base::moment::Moment;
 use sp_base::name::Name;
 use sp_base::number::{CopyNo, FlowNo};
-use sp_base::refusal::{Kind, Refusal};
 use sp_event::answer::Reply;
 use sp_event::request::Event;
 use std::alloc::{AllocError, Global};
@@ -33,10 +29,9 @@ impl Core {
         from: &Name,
         flow: FlowNo,
     ) -> Result<Ready, PrepareError>
-        ensures ready { IfOk result (λ r. IsPrepared self.now r) }
-        ensures request { IfOk result (λ r. (r.moment ≡ now) × (r.caller ≡ from.now) × (unit_of r.plan ≡ Event.Unbind flow ∷ [])) }
-        ensures refused { IfErr result (λ e. OnRefused e (λ refusal.
-            (L : Ledger) → Stands self.now L → unit_step now from.now (Event.Unbind flow ∷ []) L ≡ refused refusal)) }
+        ensures ready { IfOk result (IsPrepared self.now) }
+        ensures request { IfOk result (IsOf now from.now (Event.Unbind flow)) }
+        ensures refused { IfErr result (λ e. OnRefused e (IsRefused self.now now from.now (Event.Unbind flow))) }
     {
         if !self.is_bound(from, flow) {
             return Err(unknown_flow(flow));
@@ -63,8 +58,8 @@ impl Core {
     ) -> Result<Ready, AllocError>
         requires found { (L : Ledger) → Stands self.now L → is_some (flow_of L.flows from.now flow) ≡ true }
         requires passes { (L : Ledger) → Stands self.now L → first_refusal (unbind_checks L) ≡ None }
-        ensures ready { IfOk result (λ r. IsPrepared self.now r) }
-        ensures request { IfOk result (λ r. (r.moment ≡ now) × (r.caller ≡ from.now) × (unit_of r.plan ≡ Event.Unbind flow ∷ [])) }
+        ensures ready { IfOk result (IsPrepared self.now) }
+        ensures request { IfOk result (IsOf now from.now (Event.Unbind flow)) }
     {
         let copies = self.held_by(alloc, flow)?;
         let reply = Reply::Unbind {
@@ -80,25 +75,5 @@ impl Core {
         ensures { IfOk result (λ copies. (L : Ledger) → Stands self.now L → copies ≡ held_by L.copies flow) }
     {
         self.copies.held_by(alloc, flow)
-    }
-}
-
-// The flow isn't bound, or isn't the caller's.
-pub fn unknown_flow(flow: FlowNo) -> PrepareError
-    ensures { result ≡ PrepareError.Refused 0 (Refusal.UnknownFlow flow) }
-{
-    PrepareError::Refused {
-        index: 0,
-        refusal: Refusal::UnknownFlow { flow: flow.value() },
-    }
-}
-
-// The numbers of units are drawn.
-pub fn units_spent() -> PrepareError
-    ensures { result ≡ PrepareError.Refused 0 (Refusal.IdsSpent Kind.Unit) }
-{
-    PrepareError::Refused {
-        index: 0,
-        refusal: Refusal::IdsSpent { kind: Kind::Unit },
     }
 }

@@ -1,4 +1,4 @@
-use crate::line::line;
+use crate::tests::told::shows;
 use sp_base::bytes::Bytes;
 use sp_base::items::Items;
 use sp_base::name::Name;
@@ -8,16 +8,8 @@ use sp_copies::closed::{Cause, Fate};
 use sp_event::answer::{Answered, CopyDetails, CopyFate, Delivery, Reply};
 use sp_message::message::Dest;
 use sp_message::payload::Payload;
-use std::alloc::{AllocError, Global};
+use std::alloc::Global;
 use std::test::Fail;
-
-fn line_of(alloc: Global, answer: &Answered, unit: u64) -> Result<Vec<u8>, AllocError> {
-    let mut text = Vec::new(alloc);
-    match line(alloc, answer, unit, &mut text) {
-        Ok(()) => Ok(text),
-        Err(_) => Err(AllocError),
-    }
-}
 
 #[test]
 fn a_bind_tells_the_flow(rt: HostRuntime) -> Result<(), Fail> {
@@ -27,11 +19,8 @@ fn a_bind_tells_the_flow(rt: HostRuntime) -> Result<(), Fail> {
         flow: FlowNo::new(1),
         discarded: 0,
     };
-    let text = line_of(alloc, &Answered::Gave(reply), 3)?;
-    assert!(rt;
-        text.as_slice()
-            == b"{\"discarded\":0,\"endpoint\":\"q1\",\"flow\":1,\"ok\":\"bind\",\"unit\":3}\n".as_slice()
-    );
+    let text = r#"{"discarded":0,"endpoint":"q1","flow":1,"ok":"bind","unit":3}"#;
+    assert!(rt; shows(alloc, Answered::Gave(reply), 3, text)?);
     Ok(())
 }
 
@@ -43,11 +32,8 @@ fn an_unbind_tells_what_it_closed(rt: HostRuntime) -> Result<(), Fail> {
         closed: Items::none(alloc),
         returned: 0,
     };
-    let text = line_of(alloc, &Answered::Gave(nothing), 9)?;
-    assert!(rt;
-        text.as_slice()
-            == b"{\"closed\":[],\"flow\":1,\"ok\":\"unbind\",\"returned\":0,\"unit\":9}\n".as_slice()
-    );
+    let text = r#"{"closed":[],"flow":1,"ok":"unbind","returned":0,"unit":9}"#;
+    assert!(rt; shows(alloc, Answered::Gave(nothing), 9, text)?);
     let expired = CopyFate {
         copy: CopyNo::new(2),
         fate: Fate::Discarded(Cause::Expired),
@@ -57,11 +43,9 @@ fn an_unbind_tells_what_it_closed(rt: HostRuntime) -> Result<(), Fail> {
         closed: Items::one(alloc, expired)?,
         returned: 1,
     };
-    let text = line_of(alloc, &Answered::Gave(one), 6)?;
-    assert!(rt;
-        text.as_slice()
-            == b"{\"closed\":[{\"cause\":\"Expired\",\"copy\":2,\"fate\":\"discarded\"}],\"flow\":1,\"ok\":\"unbind\",\"returned\":1,\"unit\":6}\n".as_slice()
-    );
+    let text =
+        r#"{"closed":[{"cause":"Expired","copy":2,"fate":"discarded"}],"flow":1,"ok":"unbind","returned":1,"unit":6}"#;
+    assert!(rt; shows(alloc, Answered::Gave(one), 6, text)?);
     Ok(())
 }
 
@@ -88,14 +72,14 @@ fn a_pull_shows_payloads_as_text_or_as_base64(rt: HostRuntime) -> Result<(), Fai
             4,
             1,
             &b"\xff"[..],
-            &b"{\"deliveries\":[{\"attempt\":1,\"copy\":1,\"message\":1,\"payload64\":\"/w==\",\"properties\":{},\"queue\":\"q1\"}],\"flow\":1,\"ok\":\"pull\",\"unit\":4}\n"[..],
+            r#"{"deliveries":[{"attempt":1,"copy":1,"message":1,"payload64":"/w==","properties":{},"queue":"q1"}],"flow":1,"ok":"pull","unit":4}"#,
         ),
         (
             2,
             7,
             2,
             &b""[..],
-            &b"{\"deliveries\":[{\"attempt\":2,\"copy\":1,\"message\":1,\"payload\":\"\",\"properties\":{},\"queue\":\"q1\"}],\"flow\":2,\"ok\":\"pull\",\"unit\":7}\n"[..],
+            r#"{"deliveries":[{"attempt":2,"copy":1,"message":1,"payload":"","properties":{},"queue":"q1"}],"flow":2,"ok":"pull","unit":7}"#,
         ),
     ] {
         let delivery = delivery(alloc, attempt, payload)?.ok_or("too long")?;
@@ -103,7 +87,7 @@ fn a_pull_shows_payloads_as_text_or_as_base64(rt: HostRuntime) -> Result<(), Fai
             flow: FlowNo::new(flow),
             deliveries: Items::one(alloc, delivery)?,
         };
-        assert!(rt; line_of(alloc, &Answered::Gave(reply), unit)?.as_slice() == text);
+        assert!(rt; shows(alloc, Answered::Gave(reply), unit, text)?);
     }
     Ok(())
 }
@@ -115,24 +99,24 @@ fn a_settle_tells_the_fate(rt: HostRuntime) -> Result<(), Fail> {
         (
             Fate::Accepted,
             8,
-            &b"{\"copy\":1,\"fate\":\"accepted\",\"ok\":\"settle\",\"unit\":8}\n"[..],
+            r#"{"copy":1,"fate":"accepted","ok":"settle","unit":8}"#,
         ),
         (
             Fate::Moved(CopyNo::new(2)),
             10,
-            &b"{\"copy\":1,\"fate\":\"moved\",\"ok\":\"settle\",\"to\":2,\"unit\":10}\n"[..],
+            r#"{"copy":1,"fate":"moved","ok":"settle","to":2,"unit":10}"#,
         ),
         (
             Fate::Discarded(Cause::DmqMissing),
             9,
-            &b"{\"cause\":\"DmqMissing\",\"copy\":1,\"fate\":\"discarded\",\"ok\":\"settle\",\"unit\":9}\n"[..],
+            r#"{"cause":"DmqMissing","copy":1,"fate":"discarded","ok":"settle","unit":9}"#,
         ),
     ] {
         let reply = Reply::Settle {
             copy: CopyNo::new(1),
             fate,
         };
-        assert!(rt; line_of(alloc, &Answered::Gave(reply), unit)?.as_slice() == text);
+        assert!(rt; shows(alloc, Answered::Gave(reply), unit, text)?);
     }
     Ok(())
 }
@@ -153,25 +137,25 @@ fn a_copy_is_told_with_its_details(rt: HostRuntime) -> Result<(), Fail> {
             Fate::Spooled,
             details(1),
             6,
-            &b"{\"attempts\":1,\"copy\":1,\"endpoint\":1,\"fate\":\"spooled\",\"message\":1,\"ok\":\"copy\",\"unit\":6}\n"[..],
+            r#"{"attempts":1,"copy":1,"endpoint":1,"fate":"spooled","message":1,"ok":"copy","unit":6}"#,
         ),
         (
             Fate::Discarded(Cause::TopicChanged),
             details(0),
             5,
-            &b"{\"attempts\":0,\"cause\":\"TopicChanged\",\"copy\":1,\"endpoint\":1,\"fate\":\"discarded\",\"message\":1,\"ok\":\"copy\",\"unit\":5}\n"[..],
+            r#"{"attempts":0,"cause":"TopicChanged","copy":1,"endpoint":1,"fate":"discarded","message":1,"ok":"copy","unit":5}"#,
         ),
         (
             Fate::Never,
             None,
             6,
-            &b"{\"copy\":1,\"fate\":\"never\",\"ok\":\"copy\",\"unit\":6}\n"[..],
+            r#"{"copy":1,"fate":"never","ok":"copy","unit":6}"#,
         ),
         (
             Fate::Earlier,
             None,
             6,
-            &b"{\"copy\":1,\"fate\":\"earlier\",\"ok\":\"copy\",\"unit\":6}\n"[..],
+            r#"{"copy":1,"fate":"earlier","ok":"copy","unit":6}"#,
         ),
     ] {
         let reply = Reply::Copy {
@@ -179,31 +163,24 @@ fn a_copy_is_told_with_its_details(rt: HostRuntime) -> Result<(), Fail> {
             fate,
             details,
         };
-        assert!(rt; line_of(alloc, &Answered::Gave(reply), unit)?.as_slice() == text);
+        assert!(rt; shows(alloc, Answered::Gave(reply), unit, text)?);
     }
     Ok(())
+}
+
+fn refused(refusal: Refusal) -> Answered {
+    Answered::Refused {
+        refusal,
+        index: None,
+    }
 }
 
 #[test]
 fn refusals_of_flows(rt: HostRuntime) -> Result<(), Fail> {
     let alloc = rt.alloc();
-    for (refusal, unit, text) in [
-        (
-            Refusal::NotHeld { copy: 2 },
-            8,
-            &b"{\"refused\":{\"copy\":2,\"no\":22,\"rule\":\"NotHeld\"},\"unit\":8}\n"[..],
-        ),
-        (
-            Refusal::UnknownFlow { flow: 1 },
-            9,
-            &b"{\"refused\":{\"flow\":1,\"no\":21,\"rule\":\"UnknownFlow\"},\"unit\":9}\n"[..],
-        ),
-    ] {
-        let answer = Answered::Refused {
-            refusal,
-            index: None,
-        };
-        assert!(rt; line_of(alloc, &answer, unit)?.as_slice() == text);
-    }
+    let held = r#"{"refused":{"copy":2,"no":22,"rule":"NotHeld"},"unit":8}"#;
+    assert!(rt; shows(alloc, refused(Refusal::NotHeld { copy: 2 }), 8, held)?);
+    let flow = r#"{"refused":{"flow":1,"no":21,"rule":"UnknownFlow"},"unit":9}"#;
+    assert!(rt; shows(alloc, refused(Refusal::UnknownFlow { flow: 1 }), 9, flow)?);
     Ok(())
 }

@@ -2,9 +2,8 @@ use Rattle.std.proofs.Common.{◌∷◌, [], ◌++◌, List, ◌+◌, max, sym, 
 use Rattle.std.proofs.lemmas.List.{map-append}
 use Rattle.sp_ledger.specs.Ledger as ledger
 use Rattle.sp_core.specs.Inside.{core_state}
-use Rattle.sp_core.specs.Plan.{carried_out}
+use Rattle.sp_core.specs.Plan.{row_added}
 use Rattle.sp_core.specs.Rows.{endpoint_row}
-use Rattle.sp_core.specs.declared.plan.Plan.TheVariants.{Provision}
 use Rattle.sp_core.specs.Stands.{Stands}
 use Rattle.sp_core.specs.State.{CoreState, ledger_of}
 use Rattle.sp_core.proofs.Carried.{own, stands_sound}
@@ -28,4 +27,4 @@ returns c L s =
 pub invariant_of-self : goal.invariant_of-self
 invariant_of-self c =
     let L = ledger_of (core_state c.self.inside) in
-    stands_sound _ (carried_out c.args.moment (Provision c.args.row) L) (returns c L (own c.args.self.now (core_state c.self.inside) c.self.view_is c.self.invariant))
+    stands_sound _ (row_added c.args.moment c.args.row L) (returns c L (own c.args.self.now (core_state c.self.inside) c.self.view_is c.self.invariant))

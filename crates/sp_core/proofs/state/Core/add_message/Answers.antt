@@ -1,20 +1,22 @@
-use Rattle.std.proofs.Common.{◌≤◌, ◌^◌, ◌∷◌, [], ◌++◌, List, ◌+◌, max, sym, ap, subst, ◌∙◌, ℕ}
+use Rattle.std.proofs.Common.{◌∷◌, [], ◌++◌, List, ◌+◌, max, refl, sym, ap, subst, ◌∙◌, ℕ}
 use Rattle.std.proofs.lemmas.List.{map-append}
-use Rattle.sp_copies.specs.History.{History, used_bytes}
+use Rattle.sp_copies.specs.History.{History}
+use Rattle.sp_copies.specs.Kept.{Records}
 use Rattle.sp_ledger.specs.Ledger as ledger
+use Rattle.sp_ledger.specs.Publish.{all_made}
 use Rattle.sp_core.specs.Inside.{core_state}
-use Rattle.sp_core.specs.Plan.{carried_out}
+use Rattle.sp_core.specs.Plan.{spread}
 use Rattle.sp_core.specs.Rows.{message_row}
-use Rattle.sp_core.specs.declared.plan.Plan.TheVariants.{Publish}
 use Rattle.sp_core.specs.Stands.{Stands}
 use Rattle.sp_core.specs.State.{CoreState, ledger_of}
 use Rattle.sp_core.proofs.Carried.{own, stands_sound}
 use Rattle.sp_core.proofs.state.Core.add_message.Goals as goal
 
-pub make-requires-clause-used : goal.make-requires-clause-used
-make-requires-clause-used c H r =
-    let fits = c.requires.fits (ledger_of (core_state c.self.inside)) (own c.args.self.now (core_state c.self.inside) c.self.view_is c.self.invariant) in
-    subst (λ (h : History). used_bytes h c.args.copy.endpoint + c.args.copy.size ≤ 2 ^ 40) r.history fits
+pub make_all-requires-clause-known : goal.make_all-requires-clause-known
+make_all-requires-clause-known c = (own (core_state c.self.inside) (core_state c.self.inside) refl c.self.invariant).copies
+
+pub make_all-requires-clause-fits : goal.make_all-requires-clause-fits
+make_all-requires-clause-fits c = rw c.as_slice.ensures (c.requires.fits (ledger_of (core_state c.self.inside)) (own c.args.self.now (core_state c.self.inside) c.self.view_is c.self.invariant))
 
 pub returns : goal.returns
 returns c L s =
@@ -22,7 +24,7 @@ returns c L s =
     record {
       endpoints = t.endpoints;
       messages = rw c.add.ensures.items (map-append message_row c.self.inside.messages.items (c.args.row ∷ []) ∙ ap (λ (ms : List ledger.Published). ms ++ message_row c.args.row ∷ []) t.messages);
-      copies = c.make.ensures.made L.copies t.copies;
+      copies = subst (λ (h : History). Records c.make_all.new.copies (all_made c.args.copies h)) t.copies.history (rw c.as_slice.ensures at c.make_all.ensures);
       flows = t.flows;
       log = t.log;
       replays = t.replays;
@@ -34,4 +36,4 @@ returns c L s =
 pub invariant_of-self : goal.invariant_of-self
 invariant_of-self c =
     let L = ledger_of (core_state c.self.inside) in
-    stands_sound _ (carried_out c.args.moment (Publish c.args.row c.args.copy) L) (returns c L (own c.args.self.now (core_state c.self.inside) c.self.view_is c.self.invariant))
+    stands_sound _ (spread c.args.moment c.args.row c.args.copies L) (returns c L (own c.args.self.now (core_state c.self.inside) c.self.view_is c.self.invariant))

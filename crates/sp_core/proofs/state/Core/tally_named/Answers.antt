@@ -8,5 +8,5 @@ use Rattle.sp_core.proofs.state.Core.tally_named.Goals as goal
 
 pub returns-clause-gave : goal.returns-clause-gave
 returns-clause-gave c L s =
-    let found : named c.args.name.now L.endpoints ≡ Some (endpoint_row c.in-Some.found.now) = sym (c.in-Some.ensures L s) in
+    let found : named c.args.name.now L.endpoints ≡ Some (endpoint_row c.in-Some.found.now) = sym (c.in-Some.ensures.found L s) in
     ap (tally_named L c.args.name.now) found ∙ ap (λ (t : Tally). gave (replies.Tally t)) (sym (c.in_ok-tally.ensures L s))

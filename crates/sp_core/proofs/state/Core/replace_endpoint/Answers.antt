@@ -1,0 +1,34 @@
+use Rattle.std.proofs.Common.{◌+◌, max, sym, ap, subst, ◌∙◌, ℕ, List}
+use Rattle.sp_ledger.specs.Ledger.{replaced}
+use Rattle.sp_ledger.specs.Ledger as ledger
+use Rattle.sp_core.specs.Inside.{core_state}
+use Rattle.sp_core.specs.Plan.{row_replaced}
+use Rattle.sp_core.specs.Rows.{endpoint_row}
+use Rattle.sp_core.specs.Stands.{Stands}
+use Rattle.sp_core.specs.State.{CoreState, ledger_of}
+use Rattle.sp_core.proofs.Carried.{own, stands_sound}
+use Rattle.sp_core.proofs.Replaced.{map_replaced, rows_rise}
+use Rattle.sp_core.proofs.state.Core.replace_endpoint.Goals as goal
+
+pub replace-requires : goal.replace-requires
+replace-requires c = rows_rise c.self.inside.endpoints.items c.self.invariant.endpoints_rise
+
+pub returns : goal.returns
+returns c L s =
+    let t = subst (λ (k : CoreState). Stands k L) (sym c.self.view_is) s in
+    record {
+      endpoints = rw c.replace.ensures.items (map_replaced c.args.row c.self.inside.endpoints.items ∙ ap (replaced (endpoint_row c.args.row)) t.endpoints);
+      messages = t.messages;
+      copies = t.copies;
+      flows = t.flows;
+      log = t.log;
+      replays = t.replays;
+      next = ap (λ (n : ledger.Next). record n { unit = n.unit + 1 }) t.next;
+      clock = c.max-self-inside.ensures ∙ ap (λ (k : ℕ). max k c.args.moment) t.clock;
+      sound = c.requires L s;
+    }
+
+pub invariant_of-self : goal.invariant_of-self
+invariant_of-self c =
+    let L = ledger_of (core_state c.self.inside) in
+    stands_sound _ (row_replaced c.args.moment c.args.row L) (returns c L (own c.args.self.now (core_state c.self.inside) c.self.view_is c.self.invariant))

@@ -1,0 +1,61 @@
+-- What a publish asks for.
+use Rattle.std.specs.Prelude.{ℕ, List, [], ◌∷◌, false, Option, Some, Result, Ok, Err, option_map, option_and_then, find, bytes_eq, codes, if◌then◌else◌}
+use Rattle.serde_json.specs.Data.{Data}
+use Rattle.sp_base.specs.declared.refusal.Refusal.{Refusal}
+use Rattle.sp_base.specs.declared.refusal.Refusal.TheVariants.{DirectMode, BadTopic}
+use Rattle.sp_base.specs.Topic.{topic_fault}
+use Rattle.sp_message.specs.declared.message.Dest.{Dest}
+use Rattle.sp_message.specs.declared.message.Dest.TheVariants.{Topic, Queue}
+use Rattle.sp_message.specs.declared.message.Message.{Message}
+use Rattle.sp_event.specs.declared.request.Event.{Event}
+use Rattle.sp_event.specs.declared.request.Event.TheVariants as events
+use Rattle.sp_flowline.specs.declared.mode.Mode.{Mode}
+use Rattle.sp_flowline.specs.declared.mode.Mode.TheVariants.{Persistent, NonPersistent, Direct}
+use Rattle.sp_flowline.specs.Fields.{has_key, text_at, name_at}
+use Rattle.sp_flowline.specs.Parts.{formed, unless, and_then}
+use Rattle.sp_flowline.specs.Payloads.{payload_in}
+
+-- all modes
+abbrev pub all_modes : List Mode
+all_modes = Persistent ∷ NonPersistent ∷ Direct ∷ []
+
+-- the word for a mode
+abbrev pub mode_word : Mode → List ℕ
+mode_word Persistent = codes "persistent"
+mode_word NonPersistent = codes "non-persistent"
+mode_word Direct = codes "direct"
+
+-- the mode of a word
+abbrev pub mode_named : List ℕ → Option Mode
+mode_named word = find (λ mode. bytes_eq (mode_word mode) word) all_modes
+
+-- the mode that a field names: persistent, where it is absent
+abbrev pub mode_at : List ℕ → Data → Option Mode
+mode_at key d = if has_key key d then option_and_then mode_named (text_at key d) else Some Persistent
+
+-- the topic that a text is, or why it is none
+abbrev pub topic_from : List ℕ → Result Dest Refusal
+topic_from text = unless (option_map BadTopic (topic_fault text)) (Topic text)
+
+-- where the fields send a message; none, where one has a value outside its form
+abbrev pub dest_in : Data → Option (Result Dest Refusal)
+dest_in d =
+    if has_key (codes "topic") d then option_map topic_from (text_at (codes "topic") d)
+    else option_map (λ queue. Ok (Queue queue)) (name_at (codes "queue") d)
+
+-- a message of this payload, without a time to live, that isn't eligible for a dead-message queue and has no properties
+abbrev pub message_to : Dest → List ℕ → Message
+message_to dest payload = record { dest = dest; payload = payload; ttl = 0; eligible = false; properties = [] }
+
+-- a message that is sent in a mode: a direct one is refused, and then one to no topic
+abbrev pub sent : Mode → Result Dest Refusal → List ℕ → Result Event Refusal
+sent Direct dest payload = Err DirectMode
+sent mode dest payload = and_then dest (λ dest. Ok (events.Publish (message_to dest payload)))
+
+-- a message for a topic or a queue
+abbrev pub publish_in : Data → Result Event Refusal
+publish_in d =
+    and_then (formed (mode_at (codes "mode") d)) (λ mode.
+    and_then (formed (dest_in d)) (λ dest.
+    and_then (formed (payload_in d)) (λ payload.
+    sent mode dest payload)))
