@@ -1,11 +1,31 @@
-# `make first` runs the main job, `make test` is the gate.
-.PHONY: first test
+# `make first` runs the main job, `make test` is the gate, `make` alone is `make help`.
+.PHONY: help first examples tapes test clean
+
+# Lists the targets.
+help:
+	@echo "make first     proves and builds spoolrun, and runs the first tape (a quarter of an hour the first time, then seconds)"
+	@echo "make examples  builds spoolrun if need be, runs the examples and what the documents show, and compares"
+	@echo "make tapes     makes examples/X.tape of each examples/X.requests"
+	@echo "make test      the gate: proves everything, tries the must-fail edits, runs tests, programs and examples"
+	@echo "make clean     removes what was built"
 
 # Proves and builds spoolrun, and runs the first tape in a fresh folder.
 first:
-	@echo "proving and building spoolrun; from nothing this takes some minutes" >&2
-	@log=$$(mktemp) && (cd crates/spoolrun && rt run -- run < /dev/null) > $$log 2>&1 || { cat $$log >&2; exit 1; }
+	@echo "proving and building spoolrun: the first time this may take a quarter of an hour, after that seconds" >&2
+	@tools/build.sh spoolrun
 	@top=$$(pwd) && folder=$$(mktemp -d) && cd $$folder && $$top/crates/spoolrun/out/spoolrun run < $$top/examples/first.tape
 
+# Runs the built program on each example and on each request that the documents show.
+examples:
+	@tools/build.sh spoolrun
+	@tools/check_examples.sh crates/spoolrun/out/spoolrun
+
+# Makes the tapes of their lists of requests.
+tapes:
+	@for list in examples/*.requests; do examples/frame.sh $$list > $${list%.requests}.tape || exit 1; done
+
 test:
-	@rt ci
+	@.ci/run
+
+clean:
+	rm -rf crates/*/out
