@@ -6,7 +6,7 @@ help:
 	@echo "make first     proves and builds spoolrun, and runs the first tape (a quarter of an hour the first time, then seconds)"
 	@echo "make examples  builds spoolrun if need be, runs the examples and what the documents show, and compares"
 	@echo "make tapes     makes examples/X.tape of each examples/X.requests"
-	@echo "make test      the gate: proves everything, tries the must-fail edits, runs tests, programs and examples"
+	@echo "make test      the gate: proves everything, tries planted bugs, runs tests, programs and examples"
 	@echo "make clean     removes what was built"
 
 # Proves and builds spoolrun, and runs the first tape in a fresh folder.
