@@ -1,6 +1,8 @@
 ghost use Rattle.std.specs.Prelude.{◌≡◌, IfOk};
 ghost use Rattle.std.specs.Arc.{arc_value};
 
+mod book;
+
 use crate::hall::Hall;
 use crate::object::Object;
 use crate::pass::Pass;

@@ -8,8 +8,8 @@ use Rattle.std.proofs.lemmas.List.Elements.{All-cons, All-nil}
 use Rattle.httparse.specs.Grammar.{LineEnd, crlf, lf, print_end, print_blank, print_version, IsField, IsToken, AllPass, is_token_byte, is_uri_byte, print_section, RequestHead, IsRequestHead, print_request, HasNoRequest, EndsInTarget}
 use Rattle.httparse.specs.Spans.{name_and_value}
 use Rattle.httparse.proofs.GrammarLemmas.{cons-append}
-use Rattle.sp_rest.specs.Heads.{NeverHead}
-use Rattle.sp_rest.specs.Completions.{IsUnserved, NoFieldsEnd, NoVersionEnd, NoTarget}
+use Rattle.sp_rest.specs.Wire.Heads.{NeverHead}
+use Rattle.sp_rest.specs.Wire.Completions.{IsUnserved, NoFieldsEnd, NoVersionEnd, NoTarget}
 use Rattle.sp_rest.proofs.Splits.{splits}
 use Rattle.sp_rest.proofs.Fields.{IsGood}
 use Rattle.sp_rest.proofs.Sections.{Refuses, section_cut, section_size, ends_cut, end_size, All-front}

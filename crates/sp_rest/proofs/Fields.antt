@@ -7,7 +7,7 @@ use Rattle.std.proofs.lemmas.List.Elements.{filter-append}
 use Rattle.std.proofs.lemmas.List.Folds.{list_any-append}
 use Rattle.std.specs.Char.{to_ascii_lowercase}
 use Rattle.std.proofs.lemmas.Slice.Eq.{bytes_eq-Decides}
-use Rattle.sp_rest.specs.Request.{is_named, length_in, length_by, body_length}
+use Rattle.sp_rest.specs.Wire.Request.{is_named, length_in, length_by, body_length}
 use Rattle.sp_rest.proofs.Trims.{IsLength}
 
 abbrev pub Pair : Type 0

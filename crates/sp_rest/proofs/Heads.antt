@@ -6,8 +6,8 @@ use Rattle.httparse.specs.Spans.{name_and_value, RequestOverflows, IsRequestAt, 
 use Rattle.httparse.specs.declared.spans.HeaderSpan.{HeaderSpan}
 use Rattle.httparse.specs.declared.spans.RequestSpans.{RequestSpans}
 use Rattle.httparse.proofs.GrammarLemmas.{request_prefix_free}
-use Rattle.sp_rest.specs.Request.{body_length}
-use Rattle.sp_rest.specs.Heads.{NeverHead, IsHeadAt}
+use Rattle.sp_rest.specs.Wire.Request.{body_length}
+use Rattle.sp_rest.specs.Wire.Heads.{NeverHead, IsHeadAt}
 
 -- a whole head that is too long
 pub too_long : (bytes : List ℕ) (h : RequestHead) (r : List ℕ) → ReadsRequest bytes h r → 8192 < length (print_request h) → NeverHead bytes

@@ -2,19 +2,19 @@
 use Rattle.std.proofs.Common.{Bool, true, false, inr, append_assoc, replicate, inl, ◌-◌, [], ◌∷◌, length-append, length-take, append-nil, ◌+◌, ◌≡◌, ℕ, ◌<◌, ◌≤◌, List, ◌++◌, length, take, drop, map, sym, ap, ◌∙◌, subst, arith, take-append-drop, refl, Some}
 use Rattle.std.specs.Prelude.{unwrap_or}
 use Rattle.std.proofs.lemmas.List.{take_at, take_all, length-replicate, length-drop}
-use Rattle.httparse.specs.Grammar.{RequestHead, ReadsRequest, print_request, HasNoRequest, EndsInTarget}
+use Rattle.httparse.specs.Grammar.{RequestHead, ReadsRequest, print_request, HasNoRequest}
 use Rattle.httparse.specs.Spans.{name_and_value}
 use Rattle.httparse.proofs.GrammarLemmas.{request_unique, ReadsRequest-append}
-use Rattle.sp_rest.specs.declared.request.Field.{Field}
-use Rattle.sp_rest.specs.declared.request.Request.{Request}
-use Rattle.sp_rest.specs.Request.{IsHead, body_length, Begins, NoRequest, NeverRequest, MayBecome, shown, IsRequestOf}
+use Rattle.sp_rest.specs.declared.wire.request.Field.{Field}
+use Rattle.sp_rest.specs.declared.wire.request.Request.{Request}
+use Rattle.sp_rest.specs.Wire.Request.{IsHead, body_length, Begins, NoRequest, NeverRequest, MayBecome, IsTargetOpen, shown, IsRequestOf}
 use Rattle.sp_rest.proofs.Completions.{print_size}
-use Rattle.sp_rest.specs.Heads.{NeverHead}
-use Rattle.sp_rest.specs.Completions.{HasHead, IsUnserved}
+use Rattle.sp_rest.specs.Wire.Heads.{NeverHead}
+use Rattle.sp_rest.specs.Wire.Completions.{HasHead, IsUnserved}
 use Rattle.std.specs.Bool.{MatchBool}
-use Rattle.sp_rest.specs.declared.request.Cut.{Cut}
-use Rattle.sp_rest.specs.declared.request.Cut.TheVariants.{Whole, Partial, Hopeless}
-use Rattle.sp_rest.specs.Cutting.{IfWhole, OnPartial, OnHopeless}
+use Rattle.sp_rest.specs.declared.wire.request.Cut.{Cut}
+use Rattle.sp_rest.specs.declared.wire.request.Cut.TheVariants.{Whole, Partial, Hopeless}
+use Rattle.sp_rest.specs.Wire.Cutting.{IfWhole, OnPartial, OnHopeless}
 
 -- a head within the limits that is never there makes a request that is never there
 pub never_request : (bytes : List ℕ) → NeverHead bytes → NeverRequest bytes
@@ -138,8 +138,8 @@ found_is bytes Hopeless whole partial hopeless request used b =
 pub rest_is : (bytes : List ℕ) (k : ℕ) → take (length bytes - k) (drop k bytes) ≡ drop k bytes
 rest_is bytes k = take_all (length bytes - k) (drop k bytes) (omega (arith, length-drop k bytes))
 
--- what can never come is told, unless the bytes end within the target
-pub never_is : (bytes : List ℕ) (cut : Cut) → IfWhole cut (Begins bytes) → OnPartial cut (MayBecome bytes) → NeverRequest bytes → ¬ (EndsInTarget bytes) → cut ≡ Hopeless
+-- what can never come is told, unless the target is still being read
+pub never_is : (bytes : List ℕ) (cut : Cut) → IfWhole cut (Begins bytes) → OnPartial cut (MayBecome bytes) → NeverRequest bytes → ¬ (IsTargetOpen bytes) → cut ≡ Hopeless
 never_is bytes (Whole r m) whole partial never outside = absurd (subst NoRequest (append-nil bytes) (never []) r m whole)
 never_is bytes Partial whole (inl more) never outside = absurd (never more.0 more.1 more.2 more.3)
 never_is bytes Partial whole (inr ends) never outside = absurd (outside ends)

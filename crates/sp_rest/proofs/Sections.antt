@@ -6,7 +6,7 @@ use Rattle.httparse.proofs.GrammarLemmas.{cons-append}
 use Rattle.std.proofs.lemmas.List.Elements.{All-head, All-tail, All-cons, All-nil, All-append}
 use Rattle.httparse.specs.Grammar.{LineEnd, crlf, lf, print_end, Field, print_field, IsField, IsToken, AllPass, is_token_byte, is_value_byte, print_section, field_value, trim_ows}
 use Rattle.httparse.specs.Spans.{name_and_value}
-use Rattle.sp_rest.specs.Request.{length_in}
+use Rattle.sp_rest.specs.Wire.Request.{length_in}
 use Rattle.sp_rest.proofs.Splits.{splits}
 use Rattle.sp_rest.proofs.Trims.{IsLength, length_front, empty_length}
 use Rattle.sp_rest.proofs.Fields.{Pair, IsGood, is_encoding, is_size, good_front, good_push, good_change, given_length, other_name, no_encoding}

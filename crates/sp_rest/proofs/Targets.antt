@@ -6,7 +6,7 @@ use Rattle.std.proofs.lemmas.List.Elements.{All-head, All-tail, All-cons, All-ni
 use Rattle.httparse.specs.Grammar.{LineEnd, crlf, lf, print_end, print_blank, AllPass, is_token_byte, is_uri_byte, EndsInTarget, MayBecomeRequest}
 use Rattle.httparse.proofs.RunLemmas.{run_unique}
 use Rattle.httparse.proofs.GrammarLemmas.{print_request-append}
-use Rattle.sp_rest.specs.Targets.{is_in_target}
+use Rattle.sp_rest.specs.Wire.Targets.{is_in_target}
 
 -- any byte but the space
 abbrev pub is_solid : ℕ → Bool

@@ -8,7 +8,7 @@ use Rattle.std.proofs.lemmas.Bool.{cond-true, cond-false, and_parts, and_from, l
 use Rattle.std.proofs.lemmas.Option.{cond_some}
 use Rattle.std.proofs.lemmas.List.{reverse-append}
 use Rattle.httparse.specs.Grammar.{is_ows, skip_ows, trim_ows}
-use Rattle.sp_rest.specs.Request.{is_number, length_in}
+use Rattle.sp_rest.specs.Wire.Request.{is_number, length_in}
 use Rattle.sp_rest.proofs.Lengths.{value_grows}
 
 -- the bytes without the white space at the end

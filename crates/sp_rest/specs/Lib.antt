@@ -1,8 +1,2 @@
-pub mod Codes
-pub mod Completions
-pub mod Cutting
-pub mod Fronts
-pub mod Heads
-pub mod Request
-pub mod Response
-pub mod Targets
+pub mod Statuses
+pub mod Wire

@@ -1,14 +1,18 @@
 ghost use Rattle.std.specs.Prelude.{◌≡◌, IsTrue};
-ghost use Rattle.sp_rest.specs.Codes.{refusal_code, code_of, is_answer_code};
+ghost use Rattle.sp_rest.specs.Statuses.{refusal_code, code_of};
+ghost use Rattle.sp_rest.specs.Wire.Codes.{is_response_code};
 
 use sp_base::refusal::Refusal;
 use sp_event::answer::Answered;
+
+/// Where a request is told to be bad whose path and method no row of HTTP's requests serves.
+const NO_ROW: u64 = 5;
 
 /// The status code of an answer: 200 for what is accepted, 400, 403, 404 or 409 for what is
 /// refused, 500 for a fault of the disk, 503 for want of memory, and 507 for a full journal.
 pub fn status(answer: &Answered) -> u16
     ensures code { result ≡ code_of answer.now }
-    ensures known { IsTrue (is_answer_code result) }
+    ensures known { IsTrue (is_response_code result) }
 {
     match answer {
         Answered::Gave(_) => 200,
@@ -19,12 +23,13 @@ pub fn status(answer: &Answered) -> u16
     }
 }
 
+/// A path and method that no row serves is told as what isn't there, every other bad request as bad.
 fn refusal_status(refusal: &Refusal) -> u16
     ensures code { result ≡ refusal_code refusal.now }
-    ensures known { IsTrue (is_answer_code result) }
+    ensures known { IsTrue (is_response_code result) }
 {
     match refusal {
-        Refusal::BadRequest { at } => if *at == 5 { 404 } else { 400 },
+        Refusal::BadRequest { at } => if *at == NO_ROW { 404 } else { 400 },
         Refusal::DirectMode => 400,
         Refusal::BadTopic { .. } => 400,
         Refusal::BadSubscription { .. } => 400,

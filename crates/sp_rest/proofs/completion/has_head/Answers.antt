@@ -1,5 +1,0 @@
-use Rattle.sp_rest.proofs.Requests.{no_head_now}
-use Rattle.sp_rest.proofs.completion.has_head.Goals as goal
-
-pub returns-in-Never : goal.returns-in-Never
-returns-in-Never c = no_head_now c.args.bytes.now c.in-Never.ensures.never
