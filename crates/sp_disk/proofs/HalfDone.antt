@@ -4,23 +4,8 @@ use Rattle.std.proofs.lemmas.Grind.{common_steps}
 use Rattle.sp_disk.specs.Disk.{Torn, Shortened, written}
 use Rattle.sp_disk.specs.declared.call.Call.{Call}
 use Rattle.sp_disk.specs.declared.call.Call.TheVariants.{Len, Read, Write, Cut, Sync}
+use Rattle.sp_disk.proofs.Tears.{torn_same, torn_written}
 use Rattle.sp_disk.specs.Calls.{first_half, after_call, IsHalfDone, Leaves}
-
-pub torn_same : (at count : ℕ) (file : List ℕ) → Torn at count file file
-torn_same at count file = record {
-  before = grind (arith, common_steps);
-  behind = refl;
-  no_shorter = omega arith;
-  no_longer = omega arith;
-}
-
-pub torn_written : (at : ℕ) (bytes file : List ℕ) → Torn at (length bytes) file (written file at bytes)
-torn_written at bytes file = record {
-  before = grind (arith, common_steps);
-  behind = grind (arith, common_steps);
-  no_shorter = grind (arith, common_steps);
-  no_longer = grind (arith, common_steps);
-}
 
 -- lists that are equal from some place on are equal from a later one on
 drop_later : (place more later : ℕ) (old new : List ℕ) → place + more ≡ later → drop place new ≡ drop place old → drop later new ≡ drop later old

@@ -24,3 +24,12 @@ module _ {D : Type 0} (moment : D → ℕ) (left_since : D → ℕ → Folder �
     each = λ c left. ⊎_elim (first.each c) (λ p. p) (second.before (moment old) c first.later left);
     before = λ t c le left. ⊎_elim (first.before t c le) (λ p. inr p) (second.before t c (omega (arith, le, first.later)) left);
   }
+
+  -- what has P has Q
+  pub weakened : (old new : D) (P Q : Folder → Type 0) → ((image : Folder) → P image → Q image)
+      → LeavesOnly moment left_since old new P → LeavesOnly moment left_since old new Q
+  weakened old new P Q then only = record {
+    later = only.later;
+    each = λ image left. then image (only.each image left);
+    before = λ t image le left. ⊎_elim (λ was. inl was) (λ now. inr (then image now)) (only.before t image le left);
+  }

@@ -3,5 +3,9 @@ pub mod Calls
 pub mod Contents
 pub mod Disk
 pub mod Images
+pub mod Lending
 pub mod MemoryDisk
 pub mod Moments
+pub mod Picks
+pub mod Plan
+pub mod Replays

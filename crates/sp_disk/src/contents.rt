@@ -1,7 +1,9 @@
 //! The bytes of the files of a disk in memory.
 ghost use Rattle.std.specs.Prelude.{◌≡◌, ◌≤◌, ◌<◌, ◌+◌, ◌-◌, ◌*◌, [], ℕ, length, take, drop, min, vec_len, IfOk, OnOk, OnErr};
 ghost use Rattle.sp_disk.specs.Disk.{SameElsewhere, Fills, written};
+ghost use Rattle.std.specs.Borrow.{sem};
 ghost use Rattle.sp_disk.specs.Contents.{held};
+ghost use Rattle.sp_disk.specs.Lending.{LendsFile};
 ghost use Rattle.sp_disk.specs.Calls.{after_call, after_one, first_half};
 
 use crate::call::{Call, Taken};
@@ -24,6 +26,16 @@ impl Contents {
         }
     }
 
+    fn file(&mut self, file: File) -> &mut Vec<u8>
+        ensures* writes_back { sem 𝓛 (LendsFile self.entry file result) }
+        ensures value { result.now.items ≡ held self.old file }
+    {
+        match file {
+            File::Journal => &mut self.journal,
+            File::Image => &mut self.image,
+        }
+    }
+
     pub(crate) fn bytes(&self, file: File) -> &[u8]
         ensures { result.now ≡ held self.now file }
     {
@@ -40,10 +52,7 @@ impl Contents {
         ensures err { OnErr result (held self.new file ≡ held self.old file) }
         ensures others { SameElsewhere file (held self.old) (held self.new) }
     {
-        match file {
-            File::Journal => put(&mut self.journal, at, bytes),
-            File::Image => put(&mut self.image, at, bytes),
-        }
+        put(self.file(file), at, bytes)
     }
 
     /// Puts other bytes in the place of a file's.
@@ -60,20 +69,14 @@ impl Contents {
         ensures ok { OnOk result ((file : _) → held self.new file ≡ after_one file taken.now (held self.old file)) }
         ensures err { OnErr result ((file : _) → held self.new file ≡ held self.old file) }
     {
-        match taken.file {
-            File::Journal => apply(&mut self.journal, &taken.call, taken.failed),
-            File::Image => apply(&mut self.image, &taken.call, taken.failed),
-        }
+        apply(self.file(taken.file), &taken.call, taken.failed)
     }
 
     pub(crate) fn truncate(&mut self, file: File, len: usize)
         ensures here { held self.new file ≡ take len (held self.old file) }
         ensures others { SameElsewhere file (held self.old) (held self.new) }
     {
-        match file {
-            File::Journal => self.journal.truncate(len),
-            File::Image => self.image.truncate(len),
-        }
+        self.file(file).truncate(len);
     }
 }
 

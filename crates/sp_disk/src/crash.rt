@@ -1,126 +1,142 @@
 //! The images that a number picks.
-ghost use Rattle.std.specs.Prelude.{◌≡◌, ◌≤◌, length, min, OnOk, IfOk};
+ghost use Rattle.std.specs.Prelude.{◌≡◌, ◌≤◌, ◌/◌, ◌%◌, length, min, OnOk, IfOk};
 ghost use Rattle.sp_disk.specs.Disk.{Torn, Shortened};
 ghost use Rattle.sp_disk.specs.Calls.{after_one, IsImage, Leaves, LeavesOne};
+ghost use Rattle.sp_disk.specs.Picks.{way_of, laid, torn_by, shortened_by, Pick, pick_call, pick_one, pick_of};
+ghost use Rattle.sp_disk.specs.Replays.{picked_in};
 
 use crate::call::{Call, Taken};
 use crate::contents::{apply, first_half, put};
 use crate::disk::File;
 use std::alloc::{AllocError, Global};
 
-// What a torn write leaves in its range where it leaves neither the old bytes nor the new ones.
-const OTHER: u8 = 0x5a;
-
 // How much of a write or a cut has come to the disk at a crash.
 #[derive(Clone, Copy, Debug, PartialEq, Eq)]
-enum Way {
+pub(crate) enum Way {
     Whole,
-    None,
+    Undone,
     Half,
-    // A write's range holds other bytes. A cut is half done.
-    Other,
+    // A write's range holds this byte throughout. A cut is half done.
+    Other(u8),
 }
 
-// The last digit of a number to the base 4, as a way.
-fn last_digit(number: u64) -> Way {
-    match number % 4 {
+// A digit to the base 8, as a way.
+fn way_of(digit: u64) -> Way
+    ensures { result ≡ way_of digit }
+{
+    match digit {
         0 => Way::Whole,
-        1 => Way::None,
+        1 => Way::Undone,
         2 => Way::Half,
-        _ => Way::Other,
+        3 => Way::Other(0x00),
+        4 => Way::Other(0x01),
+        5 => Way::Other(0x5a),
+        6 => Way::Other(0x80),
+        _ => Way::Other(0xff),
     }
 }
 
-// A file as its calls are gone through again: what a read gives, and what a crash leaves.
+/// A file as its calls are gone through: what a read gives, the image that a number picks, and what
+/// is left of the number.
 #[derive(Drop)]
 pub(crate) struct Replay {
     pub(crate) reads: Vec<u8>,
     pub(crate) image: Vec<u8>,
+    pub(crate) rest: u64,
 }
 
-/// The image of a file that a number picks, and what is left of the number.
-///
-/// Each write and cut since the last sync that succeeded takes one digit to the base 4, the last one
-/// first: 0 for one that is done whole, 1 for one that isn't done, 2 for one that is half done, 3 for
-/// a write whose range holds other bytes. So 0 picks what a read gives, but for writes that failed.
-pub(crate) fn picked(
+/// A file that held these bytes first, after all the calls.
+pub(crate) fn replayed(
     alloc: Global,
     first: &[u8],
     file: File,
     calls: &[Taken],
     number: u64,
-) -> Result<(Vec<u8>, u64), AllocError>
-    ensures { IfOk result (λ picked. IsImage file calls.now first.now first.now picked.0.items) }
+) -> Result<Replay, AllocError>
+    ensures image { IfOk result (λ replay. IsImage file calls.now first.now first.now replay.image.items) }
+    ensures picked { IfOk result (λ replay. picked_in replay ≡ pick_of number file calls.now first.now) }
 {
     let mut replay = Replay {
         reads: Vec::from_slice(alloc, first)?,
         image: Vec::from_slice(alloc, first)?,
+        rest: number,
     };
-    let mut rest = number;
     for taken in calls {
-        replay.step(alloc, file, taken, last_digit(rest))?;
-        rest = after(taken, file, number, rest);
+        replay.step(alloc, file, taken, number)?;
     }
-    Ok((replay.image, rest))
-}
-
-// What is left of a number after a call.
-fn after(taken: &Taken, file: File, number: u64, rest: u64) -> u64 {
-    if taken.file != file {
-        return rest;
-    }
-    match taken.call {
-        Call::Write { .. } | Call::Cut { .. } => rest / 4,
-        Call::Sync => { if taken.failed { rest } else { number } }
-        Call::Len | Call::Read { .. } => rest,
-    }
+    Ok(replay)
 }
 
 impl Replay {
-    fn step(&mut self, alloc: Global, file: File, taken: &Taken, way: Way) -> Result<(), AllocError>
+    fn step(
+        &mut self,
+        alloc: Global,
+        file: File,
+        taken: &Taken,
+        number: u64,
+    ) -> Result<(), AllocError>
         ensures reads { OnOk result (self.new.reads.items ≡ after_one file taken.now self.old.reads.items) }
         ensures image { OnOk result (LeavesOne file taken.now self.old.reads.items self.old.image.items self.new.image.items) }
+        ensures picked { OnOk result (picked_in self.new ≡ pick_one number file taken.now self.old.reads.items (picked_in self.old)) }
     {
         if taken.file != file {
             return Ok(());
         }
-        crash(
-            alloc,
-            &mut self.image,
-            &self.reads,
-            &taken.call,
-            taken.failed,
-            way,
-        )?;
+        self.crash(alloc, &taken.call, taken.failed, number)?;
         apply(&mut self.reads, &taken.call, taken.failed)
     }
-}
 
-// Makes of an image what a crash after the call may leave.
-fn crash(
-    alloc: Global,
-    image: &mut Vec<u8>,
-    reads: &[u8],
-    call: &Call,
-    failed: bool,
-    way: Way,
-) -> Result<(), AllocError>
-    ensures { OnOk result (Leaves call.now failed reads.now image.old.items image.new.items) }
-{
-    match call {
-        Call::Write { at, bytes } => tear(alloc, image, *at as usize, bytes.as_slice(), way),
-        Call::Cut { len } => {
-            shorten(image, *len as usize, way);
-            Ok(())
-        }
-        Call::Sync => {
-            if failed {
-                return Ok(());
+    // Makes of the image one that a crash after the call may leave.
+    fn crash(
+        &mut self,
+        alloc: Global,
+        call: &Call,
+        failed: bool,
+        number: u64,
+    ) -> Result<(), AllocError>
+        ensures leaves { OnOk result (Leaves call.now failed self.old.reads.items self.old.image.items self.new.image.items) }
+        ensures picked { OnOk result (picked_in self.new ≡ pick_call number call.now failed self.old.reads.items (picked_in self.old)) }
+        ensures reads { self.new.reads ≡ self.old.reads }
+    {
+        match call {
+            Call::Write { at, bytes } => {
+                let way = self.next_way();
+                tear(alloc, &mut self.image, *at as usize, bytes.as_slice(), way)
             }
-            image.clear();
-            image.extend_from_slice(reads)
+            Call::Cut { len } => {
+                let way = self.next_way();
+                shorten(&mut self.image, *len as usize, way);
+                Ok(())
+            }
+            Call::Sync => self.settle(failed, number),
+            Call::Len | Call::Read { .. } => Ok(()),
         }
-        Call::Len | Call::Read { .. } => Ok(()),
+    }
+
+    // Takes the last digit off the number.
+    fn next_way(&mut self) -> Way
+        ensures way { result ≡ way_of (self.old.rest % 8) }
+        ensures rest { self.new.rest ≡ self.old.rest / 8 }
+        ensures reads { self.new.reads ≡ self.old.reads }
+        ensures image { self.new.image ≡ self.old.image }
+    {
+        let digit = self.rest % 8;
+        self.rest /= 8;
+        way_of(digit)
+    }
+
+    // After a sync that succeeds there is one image, and the number begins anew.
+    fn settle(&mut self, failed: bool, number: u64) -> Result<(), AllocError>
+        ensures leaves { OnOk result (Leaves Call.Sync failed self.old.reads.items self.old.image.items self.new.image.items) }
+        ensures picked { OnOk result (picked_in self.new ≡ pick_call number Call.Sync failed self.old.reads.items (picked_in self.old)) }
+        ensures reads { self.new.reads ≡ self.old.reads }
+    {
+        if failed {
+            return Ok(());
+        }
+        self.rest = number;
+        self.image.clear();
+        self.image.extend_from_slice(self.reads.as_slice())
     }
 }
 
@@ -131,14 +147,15 @@ fn tear(
     bytes: &[u8],
     way: Way,
 ) -> Result<(), AllocError>
-    ensures { OnOk result (Torn at (length bytes.now) image.old.items image.new.items) }
+    ensures torn { OnOk result (Torn at (length bytes.now) image.old.items image.new.items) }
+    ensures by { OnOk result (image.new.items ≡ torn_by way at bytes.now image.old.items) }
 {
     match way {
         Way::Whole => lay(image, at, bytes),
-        Way::None => Ok(()),
+        Way::Undone => Ok(()),
         Way::Half => lay(image, at, first_half(bytes)),
-        Way::Other => {
-            let other = vec![in alloc; OTHER; bytes.len()]?;
+        Way::Other(byte) => {
+            let other = vec![in alloc; byte; bytes.len()]?;
             lay(image, at, other.as_slice())
         }
     }
@@ -146,7 +163,8 @@ fn tear(
 
 // Puts bytes at an offset, with zeros before it where the image ends earlier.
 fn lay(image: &mut Vec<u8>, at: usize, bytes: &[u8]) -> Result<(), AllocError>
-    ensures { OnOk result (Torn at (length bytes.now) image.old.items image.new.items) }
+    ensures torn { OnOk result (Torn at (length bytes.now) image.old.items image.new.items) }
+    ensures laid { OnOk result (image.new.items ≡ laid at bytes.now image.old.items) }
 {
     if image.len() < at {
         image.resize(at, 0)?;
@@ -155,13 +173,14 @@ fn lay(image: &mut Vec<u8>, at: usize, bytes: &[u8]) -> Result<(), AllocError>
 }
 
 fn shorten(image: &mut Vec<u8>, len: usize, way: Way)
-    ensures { Shortened len image.old.items image.new.items }
+    ensures shortened { Shortened len image.old.items image.new.items }
+    ensures by { image.new.items ≡ shortened_by way len image.old.items }
 {
     let least = image.len().min(len);
     let most = image.len();
     image.truncate(match way {
         Way::Whole => least,
-        Way::None => most,
-        Way::Half | Way::Other => least + (most - least) / 2,
+        Way::Undone => most,
+        Way::Half | Way::Other(_) => least + (most - least) / 2,
     });
 }

@@ -16,8 +16,9 @@ pub enum File {
 
 /// A disk: what its files hold, and what a crash may make of them.
 ///
-/// Every call answers [`Failed`] only where the disk's count of faults rose in that call, and changes
-/// neither what the disk tells nor, of the files, any other than the one that it is given.
+/// Every call answers [`Failed`] only where the disk's count of faults rose in that call, and leaves
+/// the count where it succeeds. It changes neither what the disk tells nor, of the files, any other
+/// than the one that it is given.
 pub trait Disk {
     /// Whether the disk tells its content and its images, and whether it is honest.
     ghost tells: { Self → Telling };
@@ -45,7 +46,8 @@ pub trait Disk {
         ensures images { SameImages (may_leave self.old) (may_leave self.new) }
         ensures time { Passes moment left_since may_leave self.old self.new }
         ensures telling { tells self.new ≡ tells self.old }
-        ensures cause { HasCause (faults self.old) (faults self.new) result };
+        ensures cause { HasCause (faults self.old) (faults self.new) result }
+        ensures steady { OnOk result (faults self.new ≡ faults self.old) };
 
     /// Fills the buffer's front with the bytes that the file has from an offset, as many as fit, and
     /// gives their number. After [`Failed`] the buffer may hold anything.
@@ -57,7 +59,8 @@ pub trait Disk {
         ensures images { SameImages (may_leave self.old) (may_leave self.new) }
         ensures time { Passes moment left_since may_leave self.old self.new }
         ensures telling { tells self.new ≡ tells self.old }
-        ensures cause { HasCause (faults self.old) (faults self.new) result };
+        ensures cause { HasCause (faults self.old) (faults self.new) result }
+        ensures steady { OnOk result (faults self.new ≡ faults self.old) };
 
     /// Writes bytes at an offset, over what stands there and past the end. After [`Failed`] the range
     /// that was to be written may hold anything. Until a sync a crash may leave anything in it.
@@ -72,7 +75,8 @@ pub trait Disk {
             Follows file (Torn at (length bytes.now)) (may_leave self.old) (may_leave self.new) }
         ensures time { Passes moment left_since may_leave self.old self.new }
         ensures telling { tells self.new ≡ tells self.old }
-        ensures cause { HasCause (faults self.old) (faults self.new) result };
+        ensures cause { HasCause (faults self.old) (faults self.new) result }
+        ensures steady { OnOk result (faults self.new ≡ faults self.old) };
 
     /// Cuts a file to a length. After [`Failed`], and until a sync in what a crash leaves, the length
     /// lies between that one and the old one.
@@ -87,7 +91,8 @@ pub trait Disk {
             Follows file (Shortened len) (may_leave self.old) (may_leave self.new) }
         ensures time { Passes moment left_since may_leave self.old self.new }
         ensures telling { tells self.new ≡ tells self.old }
-        ensures cause { HasCause (faults self.old) (faults self.new) result };
+        ensures cause { HasCause (faults self.old) (faults self.new) result }
+        ensures steady { OnOk result (faults self.new ≡ faults self.old) };
 
     /// After it a crash leaves of the file what a read gives.
     fn sync(&mut self, file: File) -> Result<(), Failed>
@@ -97,7 +102,8 @@ pub trait Disk {
         ensures images { AddsNone (may_leave self.old) (may_leave self.new) }
         ensures time { Passes moment left_since may_leave self.old self.new }
         ensures telling { tells self.new ≡ tells self.old }
-        ensures cause { HasCause (faults self.old) (faults self.new) result };
+        ensures cause { HasCause (faults self.old) (faults self.new) result }
+        ensures steady { OnOk result (faults self.new ≡ faults self.old) };
 
     /// A disk as it reads is one of its images.
     ghost reads: { (disk : Self) → IsTrue (tells disk).content → IsTrue (tells disk).images →

@@ -1,5 +1,5 @@
-//! A disk over the current folder.
-ghost use Rattle.std.specs.Prelude.{◌≡◌, ◌≤◌, ◌<◌, length, Ok, IfOk};
+//! A disk over the files of a folder.
+ghost use Rattle.std.specs.Prelude.{◌≡◌, ◌≤◌, ◌<◌, length, Ok, IfOk, OnOk};
 ghost use Rattle.sp_base.specs.Causes.{HasCause};
 ghost use Rattle.sp_disk.specs.Disk.{Telling};
 
@@ -10,26 +10,46 @@ use std::io::ErrorKind;
 use std::os::unix::fs::FileExt;
 use std::{fs, io};
 
-/// The disk of a running program: `journal.sp` and `image.sp` in the current folder, each made at
-/// its first write. A file that isn't there reads as empty, and its sync does nothing. It tells
-/// nothing: what its files hold is the system's.
+/// The paths of a folder and of the files in it.
+#[derive(Clone, Copy, Debug)]
+pub struct Paths {
+    pub folder: &'static str,
+    pub journal: &'static str,
+    pub image: &'static str,
+}
+
+/// The disk of a running program: the files of a folder, each made at its first write. A file that
+/// isn't there reads as empty, and its sync does nothing. It tells nothing: what its files hold is the
+/// system's.
 #[derive(Drop)]
 pub struct FolderDisk<R: Files<File = fs::File>> {
     runtime: R,
-    journal: NamedFile,
-    image: NamedFile,
+    files: NamedFiles,
     faults: u64,
 }
 
 impl<R: Files<File = fs::File>> FolderDisk<R> {
-    /// The disk over the folder in which the runtime works. Nothing is opened or made yet.
+    /// The disk of `journal.sp` and `image.sp` in the folder in which the runtime works. Nothing is
+    /// opened or made yet.
     pub fn new(runtime: R) -> FolderDisk<R>
-        ensures { result.faults ≡ 0 }
+        ensures { ⟦<FolderDisk<R> as Disk>⟧.faults result ≡ 0 }
+    {
+        let here = Paths {
+            folder: ".",
+            journal: "journal.sp",
+            image: "image.sp",
+        };
+        FolderDisk::at(runtime, here)
+    }
+
+    /// The disk of the files at these paths, whose folder has to be there. Nothing is opened or made
+    /// yet.
+    pub fn at(runtime: R, paths: Paths) -> FolderDisk<R>
+        ensures { ⟦<FolderDisk<R> as Disk>⟧.faults result ≡ 0 }
     {
         FolderDisk {
             runtime,
-            journal: NamedFile::new("journal.sp"),
-            image: NamedFile::new("image.sp"),
+            files: NamedFiles::new(paths),
             faults: 0,
         }
     }
@@ -61,42 +81,27 @@ impl<R: Files<File = fs::File>> Disk for FolderDisk<R> {
     ghost earlier = { λ _ _ _ _ _ left. left };
 
     fn len(&mut self, file: File) -> Result<u64, Failed> {
-        let answer = match file {
-            File::Journal => self.journal.len(&self.runtime),
-            File::Image => self.image.len(&self.runtime),
-        };
+        let answer = self.files.of(file).len(&self.runtime);
         counted(&mut self.faults, answer)
     }
 
     fn read(&mut self, file: File, at: u64, into: &mut [u8]) -> Result<usize, Failed> {
-        let answer = match file {
-            File::Journal => self.journal.read(&self.runtime, at, into),
-            File::Image => self.image.read(&self.runtime, at, into),
-        };
+        let answer = self.files.of(file).read(&self.runtime, at, into);
         counted(&mut self.faults, answer)
     }
 
     fn write(&mut self, file: File, at: u64, bytes: &[u8]) -> Result<(), Failed> {
-        let answer = match file {
-            File::Journal => self.journal.write(&self.runtime, at, bytes),
-            File::Image => self.image.write(&self.runtime, at, bytes),
-        };
+        let answer = self.files.of(file).write(&self.runtime, at, bytes);
         counted(&mut self.faults, answer)
     }
 
     fn cut(&mut self, file: File, len: u64) -> Result<(), Failed> {
-        let answer = match file {
-            File::Journal => self.journal.cut(&self.runtime, len),
-            File::Image => self.image.cut(&self.runtime, len),
-        };
+        let answer = self.files.of(file).cut(&self.runtime, len);
         counted(&mut self.faults, answer)
     }
 
     fn sync(&mut self, file: File) -> Result<(), Failed> {
-        let answer = match file {
-            File::Journal => self.journal.sync(&self.runtime),
-            File::Image => self.image.sync(&self.runtime),
-        };
+        let answer = self.files.of(file).sync(&self.runtime);
         counted(&mut self.faults, answer)
     }
 }
@@ -105,6 +110,7 @@ impl<R: Files<File = fs::File>> Disk for FolderDisk<R> {
 fn counted<T: Drop>(faults: &mut u64, answer: io::Result<T>) -> Result<T, Failed>
     ensures ok { IfOk result (λ value. answer ≡ Ok value) }
     ensures cause { HasCause faults.old faults.new result }
+    ensures steady { OnOk result (faults.new ≡ faults.old) }
 {
     match answer {
         Ok(value) => Ok(value),
@@ -115,19 +121,43 @@ fn counted<T: Drop>(faults: &mut u64, answer: io::Result<T>) -> Result<T, Failed
     }
 }
 
+#[derive(Drop)]
+struct NamedFiles {
+    journal: NamedFile,
+    image: NamedFile,
+}
+
+impl NamedFiles {
+    fn new(paths: Paths) -> NamedFiles {
+        NamedFiles {
+            journal: NamedFile::new(paths.folder, paths.journal),
+            image: NamedFile::new(paths.folder, paths.image),
+        }
+    }
+
+    fn of(&mut self, file: File) -> &mut NamedFile {
+        match file {
+            File::Journal => &mut self.journal,
+            File::Image => &mut self.image,
+        }
+    }
+}
+
 // A file of the folder, which need not be there.
 #[derive(Drop)]
 struct NamedFile {
-    name: &'static str,
+    folder: &'static str,
+    path: &'static str,
     open: Option<fs::File>,
     // Whether the folder's entry for the file was synced since the file was opened or made.
     entered: bool,
 }
 
 impl NamedFile {
-    fn new(name: &'static str) -> NamedFile {
+    fn new(folder: &'static str, path: &'static str) -> NamedFile {
         NamedFile {
-            name,
+            folder,
+            path,
             open: None,
             entered: false,
         }
@@ -139,7 +169,7 @@ impl NamedFile {
             match OpenOptions::new()
                 .read(true)
                 .write(true)
-                .open(runtime, self.name)
+                .open(runtime, self.path)
             {
                 Ok(file) => self.open = Some(file),
                 Err(e) => {
@@ -187,7 +217,7 @@ impl NamedFile {
                 .read(true)
                 .write(true)
                 .create(true)
-                .open(runtime, self.name)?;
+                .open(runtime, self.path)?;
             self.open = Some(made);
         }
         match &self.open {
@@ -218,7 +248,7 @@ impl NamedFile {
         };
         file.sync_all()?;
         if !self.entered {
-            fs::File::open(runtime, ".")?.sync_all()?;
+            fs::File::open(runtime, self.folder)?.sync_all()?;
             self.entered = true;
         }
         Ok(())

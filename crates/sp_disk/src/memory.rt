@@ -3,35 +3,43 @@ ghost use Rattle.std.specs.Prelude.{◌≡◌};
 ghost use Rattle.sp_disk.specs.declared.disk.File.{File};
 ghost use Rattle.sp_disk.specs.Contents.{held};
 ghost use Rattle.sp_disk.specs.Calls.{after_all};
+ghost use Rattle.sp_disk.specs.Plan.{is_to_fail, FailedByPlan};
 
 use crate::call::{Call, Taken};
 use crate::contents::{Contents, fill};
-use crate::crash::picked;
+use crate::crash::{Replay, replayed};
 use crate::disk::{Disk, File};
 use sp_base::bytes::Bytes;
 use sp_base::failure::{Failed, Memory};
 use std::alloc::Global;
 
-/// Which calls are to fail. Calls are counted from 1.
+/// Which calls are to fail.
 #[derive(Debug, Drop)]
 struct Plan {
-    made: u64,
     failing: Vec<u64>,
     stop: Option<u64>,
 }
 
 impl Plan {
-    // Counts a call, and says whether it is to fail.
-    fn next_fails(&mut self) -> bool {
-        self.made = self.made.saturating_add(1);
-        self.stop.is_some_and(|stop| stop <= self.made) || self.failing.contains(&self.made)
+    // Whether the call of a number is to fail.
+    fn fails(&self, call: u64) -> bool
+        ensures { result ≡ is_to_fail self.now.failing.items self.now.stop call }
+    {
+        if let Some(stop) = self.stop
+            && stop <= call
+        {
+            return true;
+        }
+        self.failing.contains(&call)
     }
 }
 
 /// A disk in memory that keeps a record of all calls. It tells everything and is honest: a crash may
 /// leave whatever the calls since a file's last sync allow.
 ///
-/// A call whose growth is refused fails too, and then does nothing and isn't recorded.
+/// A call whose growth is refused fails too, and then does nothing and isn't recorded. The calls that
+/// are recorded are counted from 1, and each failed exactly where the plan says so: the list of the
+/// calls that fail, and the call at which the disk stops.
 #[derive(Debug, Drop)]
 pub struct MemoryDisk {
     alloc: Global,
@@ -43,17 +51,21 @@ pub struct MemoryDisk {
     plan: Plan,
     faults: u64,
     ghost replayed: { (file : File) → held contents file ≡ after_all file calls.items (held first file) },
+    ghost planned: { FailedByPlan plan.failing.items plan.stop calls.items },
 }
 
 impl MemoryDisk {
-    ghost use Rattle.std.specs.Prelude.{◌≡◌, ◌≤◌, [], length, IfOk};
+    ghost use Rattle.std.specs.Prelude.{◌≡◌, ◌≤◌, [], length, is_err, IfOk, OnOk};
     ghost use Rattle.sp_base.specs.Causes.{HasCause, Rose};
     ghost use Rattle.sp_disk.specs.Contents.{held};
     ghost use Rattle.sp_disk.specs.Calls.{IsImage};
+    ghost use Rattle.sp_disk.specs.Plan.{FailedByPlan};
+    ghost use Rattle.sp_disk.specs.Picks.{pick_of, picked_by};
+    ghost use Rattle.sp_disk.specs.Replays.{picked_in};
     ghost use Rattle.sp_disk.specs.Disk.{SameElsewhere, SameImages, Only};
     ghost use Rattle.sp_disk.specs.Acted.{Acted};
     ghost use Rattle.sp_disk.specs.Moments.{Passes};
-    ghost use Rattle.sp_disk.specs.MemoryDisk.{taken_by, failing_calls, stop_of};
+    ghost use Rattle.sp_disk.specs.MemoryDisk.{first_of, taken_by, failing_calls, stop_of, Recorded};
 
     /// A disk whose files are empty, and none of whose calls is to fail.
     pub fn new(alloc: Global) -> MemoryDisk
@@ -70,7 +82,6 @@ impl MemoryDisk {
             calls: Vec::new(alloc),
             contents: Contents::new(alloc),
             plan: Plan {
-                made: 0,
                 failing: Vec::new(alloc),
                 stop: None,
             },
@@ -98,8 +109,9 @@ impl MemoryDisk {
         Ok(self)
     }
 
-    /// The disk, the calls of a list of which fail. Calls are counted from 1.
+    /// The disk, which took no call yet, the calls of a list of which fail. Calls are counted from 1.
     pub fn failing(mut self, calls: Vec<u64>) -> MemoryDisk
+        requires { taken_by self ≡ [] }
         ensures failing { failing_calls result ≡ calls.items }
         ensures stop { stop_of result ≡ stop_of self }
         ensures content { ⟦<MemoryDisk as Disk>⟧.content result ≡ ⟦<MemoryDisk as Disk>⟧.content self }
@@ -111,8 +123,10 @@ impl MemoryDisk {
         self
     }
 
-    /// The disk that stops at a call: that one and all later ones fail. Calls are counted from 1.
+    /// The disk, which took no call yet, that stops at a call: that one and all later ones fail. Calls
+    /// are counted from 1.
     pub fn stopping(mut self, call: u64) -> MemoryDisk
+        requires { taken_by self ≡ [] }
         ensures failing { failing_calls result ≡ failing_calls self }
         ensures stop { stop_of result ≡ Some call }
         ensures content { ⟦<MemoryDisk as Disk>⟧.content result ≡ ⟦<MemoryDisk as Disk>⟧.content self }
@@ -127,29 +141,32 @@ impl MemoryDisk {
     /// The disk after a crash now that leaves the image that a number picks.
     ///
     /// Each write and cut of a file since its last sync that succeeded takes one digit of the number
-    /// to the base 4, the last digit first, those of the journal before those of the image: 0 for a
-    /// call that is done whole, 1 for one that isn't done, 2 for one that is half done, 3 for a write
-    /// whose range holds other bytes. So 0 picks what a read gives where no write failed.
+    /// to the base 8, the last digit first, those of the journal before those of the image: 0 for a
+    /// call that is done whole, 1 for one that isn't done, 2 for one that is half done, and 3 to 7 for
+    /// a write whose range holds one other byte throughout: 0x00, 0x01, 0x5a, 0x80, 0xff. So 0 picks
+    /// what a read gives where no write failed.
     pub fn after_crash(&self, alloc: Global, number: u64) -> Result<MemoryDisk, Memory>
         ensures image { IfOk result (λ disk. ⟦<MemoryDisk as Disk>⟧.may_leave self.now (⟦<MemoryDisk as Disk>⟧.content disk)) }
+        ensures picked { IfOk result (λ disk. (file : _) → ⟦<MemoryDisk as Disk>⟧.content disk file ≡ picked_by number (taken_by self.now) (first_of self.now) file) }
         ensures settled { IfOk result (λ disk. Only (⟦<MemoryDisk as Disk>⟧.content disk) (⟦<MemoryDisk as Disk>⟧.may_leave disk)) }
         ensures taken { IfOk result (λ disk. taken_by disk ≡ []) }
         ensures failing { IfOk result (λ disk. failing_calls disk ≡ []) }
         ensures stop { IfOk result (λ disk. stop_of disk ≡ None) }
         ensures faults { IfOk result (λ disk. ⟦<MemoryDisk as Disk>⟧.faults disk ≡ 0) }
     {
-        let (journal, rest) = self.picked(alloc, File::Journal, number)?;
-        let (image, _) = self.picked(alloc, File::Image, rest)?;
+        let journal = self.replayed(alloc, File::Journal, number)?;
+        let image = self.replayed(alloc, File::Image, journal.rest)?;
         MemoryDisk::new(alloc)
-            .with_file(File::Journal, journal.as_slice())?
-            .with_file(File::Image, image.as_slice())
+            .with_file(File::Journal, journal.image.as_slice())?
+            .with_file(File::Image, image.image.as_slice())
     }
 
-    fn picked(&self, alloc: Global, file: File, number: u64) -> Result<(Vec<u8>, u64), Memory>
-        ensures { IfOk result (λ picked. IsImage file self.now.calls.items (held self.now.first file) (held self.now.first file) picked.0.items) }
+    fn replayed(&self, alloc: Global, file: File, number: u64) -> Result<Replay, Memory>
+        ensures image { IfOk result (λ replay. IsImage file self.now.calls.items (held self.now.first file) (held self.now.first file) replay.image.items) }
+        ensures picked { IfOk result (λ replay. picked_in replay ≡ pick_of number file self.now.calls.items (held self.now.first file)) }
     {
         let calls = self.calls.as_slice();
-        picked(alloc, self.first.bytes(file), file, calls, number).map_err(|_| Memory)
+        replayed(alloc, self.first.bytes(file), file, calls, number).map_err(|_| Memory)
     }
 
     /// How often a call has failed. At the greatest `u64` the count stands.
@@ -161,7 +178,8 @@ impl MemoryDisk {
 
     /// The calls that the disk took, in order. One whose growth was refused isn't among them.
     pub fn calls(&self) -> &[Taken]
-        ensures { result.now ≡ taken_by self.now }
+        ensures taken { result.now ≡ taken_by self.now }
+        ensures planned { FailedByPlan (failing_calls self.now) (stop_of self.now) result.now }
     {
         self.calls.as_slice()
     }
@@ -179,6 +197,7 @@ impl MemoryDisk {
         ensures later { self.old.faults ≤ self.new.faults }
         ensures first { self.new.first ≡ self.old.first }
         ensures calls { self.new.calls ≡ self.old.calls }
+        ensures plan { self.new.plan ≡ self.old.plan }
         ensures contents { self.new.contents ≡ self.old.contents }
     {
         self.faults = self.faults.saturating_add(1);
@@ -191,9 +210,11 @@ impl MemoryDisk {
             (⟦<MemoryDisk as Disk>⟧.may_leave self.old) (⟦<MemoryDisk as Disk>⟧.may_leave self.new) }
         ensures time { Passes ⟦<MemoryDisk as Disk>⟧.moment ⟦<MemoryDisk as Disk>⟧.left_since
             ⟦<MemoryDisk as Disk>⟧.may_leave self.old self.new }
+        ensures recorded { Recorded file call (is_err result) self.old self.new }
         ensures cause { HasCause self.old.faults self.new.faults result }
+        ensures steady { OnOk result (self.new.faults ≡ self.old.faults) }
     {
-        let failed = self.plan.next_fails();
+        let failed = self.plan.fails(self.calls.len() as u64 + 1);
         let taken = Taken { file, call, failed };
         if self.calls.reserve(1).is_err() {
             return Err(self.fault());
@@ -210,7 +231,11 @@ impl MemoryDisk {
 }
 
 impl Disk for MemoryDisk {
-    ghost use Rattle.std.specs.Prelude.{true, length};
+    ghost use Rattle.std.specs.Prelude.{◌≡◌, ◌≤◌, true, length, take, drop, is_err, IfOk, OnOk, OnErr, IsTrue};
+    ghost use Rattle.sp_base.specs.Causes.{HasCause};
+    ghost use Rattle.sp_disk.specs.Disk.{Fills, Torn, Shortened, SameElsewhere, SameImages, Follows, AddsNone, HoldsOnly, written};
+    ghost use Rattle.sp_disk.specs.Moments.{Passes};
+    ghost use Rattle.sp_disk.specs.MemoryDisk.{Recorded};
     ghost use Rattle.sp_disk.specs.Contents.{held};
     ghost use Rattle.sp_disk.specs.Calls.{MayLeave, MightHaveLeft};
     ghost use Rattle.sp_disk.specs.Images.{reads_left, left_now, left_only_now, left_earlier};
@@ -235,29 +260,86 @@ impl Disk for MemoryDisk {
 
     ghost earlier = { λ disk. left_earlier (held disk.first) disk.calls.items };
 
-    fn len(&mut self, file: File) -> Result<u64, Failed> {
+    fn len(&mut self, file: File) -> Result<u64, Failed>
+        ensures length { IsTrue (⟦<MemoryDisk as Disk>⟧.tells self.old).content →
+            IfOk result (λ n. n ≡ length (⟦<MemoryDisk as Disk>⟧.content self.old file)) }
+        ensures content { ⟦<MemoryDisk as Disk>⟧.content self.new ≡ ⟦<MemoryDisk as Disk>⟧.content self.old }
+        ensures images { SameImages (⟦<MemoryDisk as Disk>⟧.may_leave self.old) (⟦<MemoryDisk as Disk>⟧.may_leave self.new) }
+        ensures time { Passes ⟦<MemoryDisk as Disk>⟧.moment ⟦<MemoryDisk as Disk>⟧.left_since ⟦<MemoryDisk as Disk>⟧.may_leave self.old self.new }
+        ensures telling { ⟦<MemoryDisk as Disk>⟧.tells self.new ≡ ⟦<MemoryDisk as Disk>⟧.tells self.old }
+        ensures cause { HasCause (⟦<MemoryDisk as Disk>⟧.faults self.old) (⟦<MemoryDisk as Disk>⟧.faults self.new) result }
+        ensures steady { OnOk result (⟦<MemoryDisk as Disk>⟧.faults self.new ≡ ⟦<MemoryDisk as Disk>⟧.faults self.old) }
+        ensures recorded { Recorded file (Call.Len) (is_err result) self.old self.new }
+    {
         self.act(file, Call::Len)?;
         Ok(self.contents.bytes(file).len() as u64)
     }
 
-    fn read(&mut self, file: File, at: u64, into: &mut [u8]) -> Result<usize, Failed> {
+    fn read(&mut self, file: File, at: u64, into: &mut [u8]) -> Result<usize, Failed>
+        ensures bound { IfOk result (λ n. n ≤ length into.new) }
+        ensures bytes { IsTrue (⟦<MemoryDisk as Disk>⟧.tells self.old).content →
+            IfOk result (Fills (take (length into.old) (drop at (⟦<MemoryDisk as Disk>⟧.content self.old file))) into.old into.new) }
+        ensures content { ⟦<MemoryDisk as Disk>⟧.content self.new ≡ ⟦<MemoryDisk as Disk>⟧.content self.old }
+        ensures images { SameImages (⟦<MemoryDisk as Disk>⟧.may_leave self.old) (⟦<MemoryDisk as Disk>⟧.may_leave self.new) }
+        ensures time { Passes ⟦<MemoryDisk as Disk>⟧.moment ⟦<MemoryDisk as Disk>⟧.left_since ⟦<MemoryDisk as Disk>⟧.may_leave self.old self.new }
+        ensures telling { ⟦<MemoryDisk as Disk>⟧.tells self.new ≡ ⟦<MemoryDisk as Disk>⟧.tells self.old }
+        ensures cause { HasCause (⟦<MemoryDisk as Disk>⟧.faults self.old) (⟦<MemoryDisk as Disk>⟧.faults self.new) result }
+        ensures steady { OnOk result (⟦<MemoryDisk as Disk>⟧.faults self.new ≡ ⟦<MemoryDisk as Disk>⟧.faults self.old) }
+        ensures recorded { Recorded file (Call.Read at (length into.old)) (is_err result) self.old self.new }
+    {
         let count = into.len();
         self.act(file, Call::Read { at, count })?;
         Ok(fill(self.contents.bytes(file), at as usize, into))
     }
 
-    fn write(&mut self, file: File, at: u64, bytes: &[u8]) -> Result<(), Failed> {
+    fn write(&mut self, file: File, at: u64, bytes: &[u8]) -> Result<(), Failed>
+        ensures written { IsTrue (⟦<MemoryDisk as Disk>⟧.tells self.old).content →
+            OnOk result (⟦<MemoryDisk as Disk>⟧.content self.new file ≡ written (⟦<MemoryDisk as Disk>⟧.content self.old file) at bytes.now) }
+        ensures failed { IsTrue (⟦<MemoryDisk as Disk>⟧.tells self.old).content →
+            OnErr result (Torn at (length bytes.now) (⟦<MemoryDisk as Disk>⟧.content self.old file) (⟦<MemoryDisk as Disk>⟧.content self.new file)) }
+        ensures others { SameElsewhere file (⟦<MemoryDisk as Disk>⟧.content self.old) (⟦<MemoryDisk as Disk>⟧.content self.new) }
+        ensures images { IsTrue (⟦<MemoryDisk as Disk>⟧.tells self.old).honest →
+            Follows file (Torn at (length bytes.now)) (⟦<MemoryDisk as Disk>⟧.may_leave self.old) (⟦<MemoryDisk as Disk>⟧.may_leave self.new) }
+        ensures time { Passes ⟦<MemoryDisk as Disk>⟧.moment ⟦<MemoryDisk as Disk>⟧.left_since ⟦<MemoryDisk as Disk>⟧.may_leave self.old self.new }
+        ensures telling { ⟦<MemoryDisk as Disk>⟧.tells self.new ≡ ⟦<MemoryDisk as Disk>⟧.tells self.old }
+        ensures cause { HasCause (⟦<MemoryDisk as Disk>⟧.faults self.old) (⟦<MemoryDisk as Disk>⟧.faults self.new) result }
+        ensures steady { OnOk result (⟦<MemoryDisk as Disk>⟧.faults self.new ≡ ⟦<MemoryDisk as Disk>⟧.faults self.old) }
+        ensures recorded { Recorded file (Call.Write at bytes.now) (is_err result) self.old self.new }
+    {
         match Bytes::copy_of(self.alloc, bytes) {
             Ok(bytes) => self.act(file, Call::Write { at, bytes }),
             Err(_) => Err(self.fault()),
         }
     }
 
-    fn cut(&mut self, file: File, len: u64) -> Result<(), Failed> {
+    fn cut(&mut self, file: File, len: u64) -> Result<(), Failed>
+        ensures cut { IsTrue (⟦<MemoryDisk as Disk>⟧.tells self.old).content →
+            OnOk result (⟦<MemoryDisk as Disk>⟧.content self.new file ≡ take len (⟦<MemoryDisk as Disk>⟧.content self.old file)) }
+        ensures failed { IsTrue (⟦<MemoryDisk as Disk>⟧.tells self.old).content →
+            OnErr result (Shortened len (⟦<MemoryDisk as Disk>⟧.content self.old file) (⟦<MemoryDisk as Disk>⟧.content self.new file)) }
+        ensures others { SameElsewhere file (⟦<MemoryDisk as Disk>⟧.content self.old) (⟦<MemoryDisk as Disk>⟧.content self.new) }
+        ensures images { IsTrue (⟦<MemoryDisk as Disk>⟧.tells self.old).honest →
+            Follows file (Shortened len) (⟦<MemoryDisk as Disk>⟧.may_leave self.old) (⟦<MemoryDisk as Disk>⟧.may_leave self.new) }
+        ensures time { Passes ⟦<MemoryDisk as Disk>⟧.moment ⟦<MemoryDisk as Disk>⟧.left_since ⟦<MemoryDisk as Disk>⟧.may_leave self.old self.new }
+        ensures telling { ⟦<MemoryDisk as Disk>⟧.tells self.new ≡ ⟦<MemoryDisk as Disk>⟧.tells self.old }
+        ensures cause { HasCause (⟦<MemoryDisk as Disk>⟧.faults self.old) (⟦<MemoryDisk as Disk>⟧.faults self.new) result }
+        ensures steady { OnOk result (⟦<MemoryDisk as Disk>⟧.faults self.new ≡ ⟦<MemoryDisk as Disk>⟧.faults self.old) }
+        ensures recorded { Recorded file (Call.Cut len) (is_err result) self.old self.new }
+    {
         self.act(file, Call::Cut { len })
     }
 
-    fn sync(&mut self, file: File) -> Result<(), Failed> {
+    fn sync(&mut self, file: File) -> Result<(), Failed>
+        ensures durable { IsTrue (⟦<MemoryDisk as Disk>⟧.tells self.old).honest →
+            OnOk result (HoldsOnly file (⟦<MemoryDisk as Disk>⟧.content self.old file) (⟦<MemoryDisk as Disk>⟧.may_leave self.new)) }
+        ensures content { ⟦<MemoryDisk as Disk>⟧.content self.new ≡ ⟦<MemoryDisk as Disk>⟧.content self.old }
+        ensures images { AddsNone (⟦<MemoryDisk as Disk>⟧.may_leave self.old) (⟦<MemoryDisk as Disk>⟧.may_leave self.new) }
+        ensures time { Passes ⟦<MemoryDisk as Disk>⟧.moment ⟦<MemoryDisk as Disk>⟧.left_since ⟦<MemoryDisk as Disk>⟧.may_leave self.old self.new }
+        ensures telling { ⟦<MemoryDisk as Disk>⟧.tells self.new ≡ ⟦<MemoryDisk as Disk>⟧.tells self.old }
+        ensures cause { HasCause (⟦<MemoryDisk as Disk>⟧.faults self.old) (⟦<MemoryDisk as Disk>⟧.faults self.new) result }
+        ensures steady { OnOk result (⟦<MemoryDisk as Disk>⟧.faults self.new ≡ ⟦<MemoryDisk as Disk>⟧.faults self.old) }
+        ensures recorded { Recorded file (Call.Sync) (is_err result) self.old self.new }
+    {
         self.act(file, Call::Sync)
     }
 }

@@ -1,9 +1,10 @@
 use crate::call::Call;
 use crate::disk::{Disk, File};
 use crate::flat::FlatDisk;
-use crate::folder::FolderDisk;
+use crate::folder::{FolderDisk, Paths};
 use crate::memory::MemoryDisk;
 use sp_base::failure::Failed;
+use std::fs;
 use std::test::Fail;
 
 const J: File = File::Journal;
@@ -70,27 +71,28 @@ const ONE_FILE_SYNCED: &[Step] = &[
 ];
 
 // The calls on empty files, the number, and what a crash by that number leaves of both files.
-const CRASHES: [(&[Step], u64, &[u8], &[u8]); 20] = [
+const CRASHES: [(&[Step], u64, &[u8], &[u8]); 21] = [
     (WRITTEN, 0, b"abcd", b""),
     (WRITTEN, 1, b"", b""),
     (WRITTEN, 2, b"ab", b""),
-    (WRITTEN, 3, b"ZZZZ", b""),
+    (WRITTEN, 3, b"\0\0\0\0", b""),
     (OVERWRITTEN, 0, b"abxyz", b""),
     (OVERWRITTEN, 1, b"abcd", b""),
     (OVERWRITTEN, 2, b"abxy", b""),
-    (OVERWRITTEN, 3, b"abZZZ", b""),
+    (OVERWRITTEN, 5, b"abZZZ", b""),
     (SHORTENED, 0, b"a", b""),
     (SHORTENED, 1, b"abcd", b""),
     (SHORTENED, 2, b"ab", b""),
-    // The last digit to the base 4 is the cut's, the one before it the write's.
+    (SHORTENED, 7, b"ab", b""),
+    // The last digit to the base 8 is the cut's, the one before it the write's.
     (WRITTEN_AFTER_A_CUT, 0, b"axy", b""),
     (WRITTEN_AFTER_A_CUT, 1, b"axyd", b""),
-    (WRITTEN_AFTER_A_CUT, 4, b"a", b""),
-    (WRITTEN_AFTER_A_CUT, 5, b"abcd", b""),
+    (WRITTEN_AFTER_A_CUT, 8, b"a", b""),
+    (WRITTEN_AFTER_A_CUT, 9, b"abcd", b""),
     (IN_TWO_PIECES, 1, b"\0\0cd", b""),
-    (IN_TWO_PIECES, 4, b"ab", b""),
+    (IN_TWO_PIECES, 8, b"ab", b""),
     (BOTH_FILES, 1, b"", b"cd"),
-    (BOTH_FILES, 4, b"ab", b""),
+    (BOTH_FILES, 8, b"ab", b""),
     (ONE_FILE_SYNCED, 1, b"ab", b""),
 ];
 
@@ -103,6 +105,61 @@ fn a_number_picks_what_a_crash_leaves(rt: HostRuntime) -> Result<(), Fail> {
         let left = disk.after_crash(alloc, number)?;
         assert!(rt; left.bytes(J) == journal);
         assert!(rt; left.bytes(I) == image);
+    }
+    Ok(())
+}
+
+// What a write of `wx` over `ab`, and one of `yz` over `cd`, may leave: it is whole, not done, half
+// done, or other bytes.
+const FIRST: [&[u8]; 8] = [
+    b"wx",
+    b"ab",
+    b"wb",
+    b"\0\0",
+    b"\x01\x01",
+    b"ZZ",
+    b"\x80\x80",
+    b"\xff\xff",
+];
+
+const SECOND: [&[u8]; 8] = [
+    b"yz",
+    b"cd",
+    b"yd",
+    b"\0\0",
+    b"\x01\x01",
+    b"ZZ",
+    b"\x80\x80",
+    b"\xff\xff",
+];
+
+#[test]
+fn two_writes_leave_every_mix(rt: HostRuntime) -> Result<(), Fail> {
+    let alloc = rt.alloc();
+    let mut one = MemoryDisk::new(alloc).with_file(J, b"abcd")?;
+    take_all(
+        &mut one,
+        &[Step::Write(J, 0, b"wx"), Step::Write(J, 2, b"yz")],
+    );
+    let mut two = MemoryDisk::new(alloc)
+        .with_file(J, b"ab")?
+        .with_file(I, b"cd")?;
+    take_all(
+        &mut two,
+        &[Step::Write(J, 0, b"wx"), Step::Write(I, 0, b"yz")],
+    );
+    for number in 0..64 {
+        let first = FIRST[number % 8];
+        let second = SECOND[number / 8];
+        let mut both = Vec::from_slice(alloc, first)?;
+        both.extend_from_slice(second)?;
+        let left = one.after_crash(alloc, number as u64)?;
+        assert!(rt; left.bytes(J) == both.as_slice(), "{number}");
+        let left = two.after_crash(alloc, number as u64)?;
+        assert!(rt;
+            left.bytes(J) == first && left.bytes(I) == second,
+            "{number}"
+        );
     }
     Ok(())
 }
@@ -126,7 +183,11 @@ fn a_call_of_the_list_fails_and_is_recorded(rt: HostRuntime) -> Result<(), Fail>
     assert!(rt; disk.after_crash(alloc, 1)?.bytes(J) == b"abcd".as_slice());
     assert_eq!(rt; disk.sync(J), Ok(()));
     assert!(rt; disk.after_crash(alloc, 1)?.bytes(J) == b"wxcd".as_slice());
-    assert_eq!(rt; disk.calls().len(), 5);
+    let failed = [false, true, false, true, false];
+    assert_eq!(rt; disk.calls().len(), failed.len());
+    for (taken, failed) in disk.calls().iter().zip(failed.iter()) {
+        assert_eq!(rt; taken.failed, *failed);
+    }
     assert!(rt; matches!(disk.calls().last(), Some(taken) if matches!(taken.call, Call::Sync)));
     Ok(())
 }
@@ -157,9 +218,17 @@ fn a_flat_disk_keeps_bytes(rt: HostRuntime) -> Result<(), Fail> {
     Ok(())
 }
 
+const OWN: Paths = Paths {
+    folder: "folder_of_a_test",
+    journal: "folder_of_a_test/journal.sp",
+    image: "folder_of_a_test/image.sp",
+};
+
 #[test]
-fn a_folder_keeps_its_files(rt: HostRuntime) {
-    let mut disk = FolderDisk::new(&rt);
+fn a_folder_keeps_its_files(rt: HostRuntime) -> Result<(), Fail> {
+    let _ = fs::remove_dir_all(&rt, OWN.folder);
+    fs::create_dir(&rt, OWN.folder)?;
+    let mut disk = FolderDisk::at(&rt, OWN);
     let mut into = [0u8; 8];
     // Files that aren't there read as empty, and nothing makes them but a write.
     assert_eq!(rt; disk.len(J), Ok(0));
@@ -167,6 +236,7 @@ fn a_folder_keeps_its_files(rt: HostRuntime) {
     assert_eq!(rt; disk.cut(J, 0), Ok(()));
     assert_eq!(rt; disk.sync(J), Ok(()));
     assert_eq!(rt; disk.len(J), Ok(0));
+    assert!(rt; fs::metadata(&rt, OWN.journal).is_err());
     assert_eq!(rt; disk.write(J, 0, b"abcd"), Ok(()));
     assert_eq!(rt; disk.sync(J), Ok(()));
     assert_eq!(rt; disk.read(J, 1, &mut into), Ok(3));
@@ -174,9 +244,14 @@ fn a_folder_keeps_its_files(rt: HostRuntime) {
     assert_eq!(rt; disk.cut(J, 2), Ok(()));
     assert_eq!(rt; disk.len(J), Ok(2));
     assert_eq!(rt; disk.len(I), Ok(0));
-    let mut reopened = FolderDisk::new(&rt);
+    assert_eq!(rt; fs::metadata(&rt, OWN.journal)?.len(), 2);
+    let mut reopened = FolderDisk::at(&rt, OWN);
     assert_eq!(rt; reopened.len(J), Ok(2));
     assert_eq!(rt; reopened.read(J, 0, &mut into), Ok(2));
     assert!(rt; into[..2] == b"ab"[..]);
     assert_eq!(rt; reopened.sync(J), Ok(()));
+    fs::remove_dir_all(&rt, OWN.folder)?;
+    // The disk of the program works in the folder that it is run in.
+    assert_eq!(rt; FolderDisk::new(&rt).len(J), Ok(0));
+    Ok(())
 }

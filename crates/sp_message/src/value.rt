@@ -60,7 +60,8 @@ impl Fixed {
         }
     }
 
-    fn negated(self) -> Fixed
+    /// The number of the other sign.
+    pub fn negated(self) -> Fixed
         ensures { result ≡ neg_ℤ self }
     {
         Fixed {
@@ -150,9 +151,11 @@ fn unsigned(text: &[u8]) -> Option<Fixed>
     bounded(whole, millionths)
 }
 
-fn bounded(whole: u64, millionths: u64) -> Option<Fixed>
+/// Whole and millionths together, which are fewer than a million. None exactly above the greatest
+/// magnitude.
+pub fn bounded(whole: u64, millionths: u64) -> Option<Fixed>
     requires { millionths < 1000000 }
-    ensures value { result ≡ bounded whole millionths }
+    ensures { result ≡ bounded whole millionths }
 {
     let magnitude = u128::from(whole) * 1_000_000 + u128::from(millionths);
     if magnitude > GREATEST_FIXED {

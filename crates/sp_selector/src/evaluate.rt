@@ -7,7 +7,7 @@ ghost use Rattle.sp_selector.specs.Values.{alike, and_of, applied, compared, com
 
 use crate::datum::{Datum, Lent};
 use crate::like::matches;
-use crate::number::{difference, from_whole, negated, product, quotient, sum};
+use crate::number::{MILLION, bounded, product, quotient};
 use crate::tree::{Operator, PatternItem, Sign, Tree};
 use sp_base::text::Str;
 use sp_message::property::Properties;
@@ -52,7 +52,7 @@ fn of_value(value: Option<&Value>) -> Datum<'_>
     ensures { result ≡ of_value (option_copied value.entry) }
 {
     match value {
-        Some(Value::Whole(n)) => from_whole(*n),
+        Some(Value::Whole(n)) => bounded(i128::from(*n) * MILLION),
         Some(Value::Fixed(number)) => Datum::Number(*number),
         Some(Value::Text(text)) => Datum::Text(Lent::new(text.as_str())),
         Some(Value::Bool(truth)) => Datum::Truth(*truth),
@@ -71,7 +71,7 @@ fn signed(sign: Sign, datum: Datum<'_>) -> Datum<'_>
 {
     match (sign, datum) {
         (Sign::Plus, Datum::Number(number)) => Datum::Number(number),
-        (Sign::Minus, Datum::Number(number)) => negated(number),
+        (Sign::Minus, Datum::Number(number)) => Datum::Number(number.negated()),
         _ => Datum::Null,
     }
 }
@@ -134,12 +134,7 @@ fn applied(operator: Operator, a: &Datum, b: &Datum) -> Datum<'static>
         Operator::Add | Operator::Subtract | Operator::Multiply | Operator::Divide => {
             computed(operator, a, b)
         }
-        Operator::Equal
-        | Operator::NotEqual
-        | Operator::Less
-        | Operator::AtMost
-        | Operator::Greater
-        | Operator::AtLeast => of_truth(compared(operator, a, b)),
+        _ => of_truth(compared(operator, a, b)),
     }
 }
 
@@ -150,8 +145,8 @@ fn computed(operator: Operator, a: &Datum, b: &Datum) -> Datum<'static>
         return Datum::Null;
     };
     match operator {
-        Operator::Add => sum(*x, *y),
-        Operator::Subtract => difference(*x, *y),
+        Operator::Add => bounded(x.millionths() + y.millionths()),
+        Operator::Subtract => bounded(x.millionths() - y.millionths()),
         Operator::Multiply => product(*x, *y),
         Operator::Divide => quotient(*x, *y),
         _ => Datum::Null,

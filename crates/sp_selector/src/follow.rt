@@ -53,29 +53,14 @@ pub(crate) fn is_comparison(operator: Operator) -> bool
     )
 }
 
-pub(crate) fn after_close(tokens: &[Token]) -> Result<&[Token], ParseError>
-    ensures { Gives (λ x. x.now) result (after_close tokens.now) }
+/// What follows a mark, which has to stand there.
+pub(crate) fn after_mark(mark: Mark, tokens: &[Token]) -> Result<&[Token], ParseError>
+    ensures close { mark ≡ Mark.Close → Gives (λ x. x.now) result (after_close tokens.now) }
+    ensures null { mark ≡ Mark.Null → Gives (λ x. x.now) result (after_null tokens.now) }
+    ensures open { mark ≡ Mark.Open → Gives (λ x. x.now) result (after_open tokens.now) }
 {
     match tokens.split_first() {
-        Some((Token::Mark(Mark::Close), rest)) => Ok(rest),
-        _ => Err(ParseError::Stuck(tokens.len())),
-    }
-}
-
-pub(crate) fn after_null(tokens: &[Token]) -> Result<&[Token], ParseError>
-    ensures { Gives (λ x. x.now) result (after_null tokens.now) }
-{
-    match tokens.split_first() {
-        Some((Token::Mark(Mark::Null), rest)) => Ok(rest),
-        _ => Err(ParseError::Stuck(tokens.len())),
-    }
-}
-
-pub(crate) fn after_open(tokens: &[Token]) -> Result<&[Token], ParseError>
-    ensures { Gives (λ x. x.now) result (after_open tokens.now) }
-{
-    match tokens.split_first() {
-        Some((Token::Mark(Mark::Open), rest)) => Ok(rest),
+        Some((Token::Mark(found), rest)) if *found == mark => Ok(rest),
         _ => Err(ParseError::Stuck(tokens.len())),
     }
 }
@@ -107,15 +92,13 @@ pub(crate) fn escape(tokens: &[Token]) -> Result<(Option<char>, &[Token]), Parse
 pub(crate) fn only_char(text: &str) -> Option<char>
     ensures { (left : ℕ) → only_char (chars text.now) left ≡ ok_or result left }
 {
-    match first_char(text) {
-        Some((c, rest)) => {
-            if first_char(rest).is_some() {
-                return None;
-            }
-            Some(c)
-        }
-        None => None,
+    let Some((c, rest)) = first_char(text) else {
+        return None;
+    };
+    if first_char(rest).is_some() {
+        return None;
     }
+    Some(c)
 }
 
 /// The texts of a list, up to its closing parenthesis.

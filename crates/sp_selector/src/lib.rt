@@ -1,18 +1,17 @@
-//! Selectors: conditions over a message's properties, which are read from a text and tell whether
-//! they take a message.
+//! Selectors: conditions over a message's properties, read from a text, that take it or not.
 #![tactic(auto)]
 
-pub mod datum;
-pub mod evaluate;
-pub mod follow;
-pub mod like;
-pub mod number;
-pub mod parse;
-pub mod pattern;
-pub mod scan;
-pub mod scanned;
+mod datum;
+mod evaluate;
+mod follow;
+mod like;
+mod number;
+mod parse;
+mod pattern;
+mod scan;
+mod scanned;
 pub mod selector;
 #[cfg(test)]
 mod tests;
-pub mod token;
-pub mod tree;
+mod token;
+mod tree;

@@ -1,39 +1,11 @@
-ghost use Rattle.std.specs.Prelude.{◌≡◌, ◌+ℤ◌, ◌-ℤ◌, ◌*ℤ◌, ◌≢◌, pos, neg_ℤ, int_div};
+ghost use Rattle.std.specs.Prelude.{◌≡◌, ◌*ℤ◌, ◌≢◌, pos, int_div};
 ghost use Rattle.sp_selector.specs.Values.{bounded, product, quotient};
 
 use crate::datum::Datum;
 use sp_message::value::Fixed;
 
 /// How many millionths make one.
-const MILLION: i128 = 1_000_000;
-
-/// A whole number, or no value where it is out of the range of a property's.
-pub(crate) fn from_whole(n: i64) -> Datum<'static>
-    ensures { result ≡ bounded (n *ℤ pos 1000000) }
-{
-    bounded(i128::from(n) * MILLION)
-}
-
-/// The number of the other sign.
-pub(crate) fn negated(x: Fixed) -> Datum<'static>
-    ensures { result ≡ Datum.Number (neg_ℤ x) }
-{
-    bounded(-x.millionths())
-}
-
-/// The sum of two numbers, or no value where it is too large.
-pub(crate) fn sum(x: Fixed, y: Fixed) -> Datum<'static>
-    ensures { result ≡ bounded (x +ℤ y) }
-{
-    bounded(x.millionths() + y.millionths())
-}
-
-/// The difference of two numbers, or no value where it is too large.
-pub(crate) fn difference(x: Fixed, y: Fixed) -> Datum<'static>
-    ensures { result ≡ bounded (x -ℤ y) }
-{
-    bounded(x.millionths() - y.millionths())
-}
+pub(crate) const MILLION: i128 = 1_000_000;
 
 /// The product of two numbers, cut toward zero, or no value where it is too large.
 pub(crate) fn product(x: Fixed, y: Fixed) -> Datum<'static>
@@ -45,8 +17,7 @@ pub(crate) fn product(x: Fixed, y: Fixed) -> Datum<'static>
     }
 }
 
-/// The quotient of two numbers, cut toward zero, or no value where it is too large or the divisor
-/// is zero.
+/// The quotient, cut toward zero, or no value where it is too large or the divisor is zero.
 #[tactic(auto, using(crate::proofs::Numbers::quotient_by_some))]
 pub(crate) fn quotient(x: Fixed, y: Fixed) -> Datum<'static>
     ensures { result ≡ quotient x y }
@@ -64,7 +35,8 @@ fn divided(x: Fixed, y: Fixed) -> i128
     x.millionths() * MILLION / y.millionths()
 }
 
-fn bounded(millionths: i128) -> Datum<'static>
+/// The number of so many millionths, or no value where it is too large.
+pub(crate) fn bounded(millionths: i128) -> Datum<'static>
     ensures { result ≡ bounded millionths }
 {
     match Fixed::new(millionths) {

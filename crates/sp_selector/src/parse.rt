@@ -6,9 +6,7 @@ ghost use Rattle.sp_selector.specs.Grammar.{Chained, Condition, Factor, Negation
 ghost use Rattle.sp_selector.specs.Parser.{Chain_after, Condition_after, Gives, Whole, between_step, in_step, like_step, null_test, parenthesis_step, reads};
 ghost use Rattle.sp_selector.specs.Tree.{Binary, expression};
 
-use crate::follow::{
-    after_and, after_close, after_null, after_open, escape, is_comparison, joint, texts,
-};
+use crate::follow::{after_and, after_mark, escape, is_comparison, joint, texts};
 use crate::pattern::pattern;
 use crate::token::{Mark, Token};
 use crate::tree::{Operator, Sign, Tree};
@@ -177,7 +175,7 @@ fn parenthesis<'a>(alloc: Global, room: usize, tokens: &'a [Token]) -> Read<'a>
     ensures { Gives (λ x. (expression x.0, x.1.now)) result (parenthesis_step (reads room) tokens.now) }
 {
     let (inner, rest) = chained(alloc, room, Chain::Disjunction, tokens)?;
-    Ok((inner, after_close(rest)?))
+    Ok((inner, after_mark(Mark::Close, rest)?))
 }
 
 #[cycle(parse)]
@@ -213,12 +211,12 @@ fn null_test<'a>(alloc: Global, operand: Tree, tokens: &'a [Token]) -> Read<'a>
 {
     match tokens.split_first() {
         Some((Token::Mark(Mark::Not), more)) => {
-            let rest = after_null(more)?;
+            let rest = after_mark(Mark::Null, more)?;
             let test = Tree::IsNull(boxed(alloc, operand)?);
             Ok((Tree::Not(boxed(alloc, test)?), rest))
         }
         _ => {
-            let rest = after_null(tokens)?;
+            let rest = after_mark(Mark::Null, tokens)?;
             Ok((Tree::IsNull(boxed(alloc, operand)?), rest))
         }
     }
@@ -254,7 +252,7 @@ fn between<'a>(alloc: Global, room: usize, operand: Tree, tokens: &'a [Token]) -
 fn among<'a>(alloc: Global, operand: Tree, tokens: &'a [Token]) -> Read<'a>
     ensures { Gives (λ x. (expression x.0, x.1.now)) result (in_step (expression operand) tokens.now) }
 {
-    let more = after_open(tokens)?;
+    let more = after_mark(Mark::Open, tokens)?;
     let (texts, rest) = texts(alloc, more)?;
     Ok((Tree::In(boxed(alloc, operand)?, texts), rest))
 }

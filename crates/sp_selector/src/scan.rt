@@ -1,13 +1,13 @@
 ghost use Rattle.std.specs.Prelude.{◌≡◌, ◌==◌, ◌&&◌, ◌||◌, ◌+◌, if◌then◌else◌, ◌≤◌, ◌<◌, false, true, not, length, drop, IfOk, IfSome, Some, slice_index, position};
 ghost use Rattle.std.specs.Option.{option_map};
-ghost use Rattle.sp_message.specs.Decimal.{bounded, is_digit, joined};
+ghost use Rattle.sp_message.specs.Decimal.{is_digit, joined};
 ghost use Rattle.sp_selector.specs.Scan.{begins_word, decimals_or_none, digits_len, is_separator, is_utf8, is_word_byte, keyword_of, number_at, number_token, pointed, quoted, symbol_at, text_token, token_at, whole_or_none, word_at, word_len};
 
 use crate::token::{Mark, Token};
 use crate::tree::Operator;
 use sp_base::text::Str;
 use sp_message::decimal::{millionths, whole};
-use sp_message::value::{Fixed, GREATEST_FIXED};
+use sp_message::value::{Fixed, bounded};
 use std::alloc::{AllocError, Global};
 
 /// The token with which a text begins, the longest one, and how many bytes it has.
@@ -19,7 +19,7 @@ pub fn token_at(alloc: Global, text: &[u8]) -> Result<Option<(Token, usize)>, Al
     if begins_word(first) {
         return word_at(alloc, text);
     }
-    if begins_number(first) {
+    if first.is_ascii_digit() || first == b'.' {
         return Ok(number_at(text));
     }
     if first == b'\'' {
@@ -45,12 +45,6 @@ fn without_first(text: &[u8]) -> &[u8]
         Some((_, rest)) => rest,
         None => text,
     }
-}
-
-fn begins_number(b: u8) -> bool
-    ensures { result ≡ (is_digit b || (b == 46)) }
-{
-    b.is_ascii_digit() || b == b'.'
 }
 
 /// Whether a byte separates tokens.
@@ -133,40 +127,20 @@ fn text_of(bytes: &[u8]) -> Option<&str>
 fn keyword(word: &[u8]) -> Option<Token>
     ensures { result ≡ keyword_of word.now }
 {
-    if word.eq_ignore_ascii_case(b"AND") {
-        return Some(Token::Infix(Operator::And));
+    match word {
+        w if w.eq_ignore_ascii_case(b"AND") => Some(Token::Infix(Operator::And)),
+        w if w.eq_ignore_ascii_case(b"OR") => Some(Token::Infix(Operator::Or)),
+        w if w.eq_ignore_ascii_case(b"NOT") => Some(Token::Mark(Mark::Not)),
+        w if w.eq_ignore_ascii_case(b"BETWEEN") => Some(Token::Mark(Mark::Between)),
+        w if w.eq_ignore_ascii_case(b"IN") => Some(Token::Mark(Mark::In)),
+        w if w.eq_ignore_ascii_case(b"LIKE") => Some(Token::Mark(Mark::Like)),
+        w if w.eq_ignore_ascii_case(b"ESCAPE") => Some(Token::Mark(Mark::Escape)),
+        w if w.eq_ignore_ascii_case(b"IS") => Some(Token::Mark(Mark::Is)),
+        w if w.eq_ignore_ascii_case(b"NULL") => Some(Token::Mark(Mark::Null)),
+        w if w.eq_ignore_ascii_case(b"TRUE") => Some(Token::Mark(Mark::True)),
+        w if w.eq_ignore_ascii_case(b"FALSE") => Some(Token::Mark(Mark::False)),
+        _ => None,
     }
-    if word.eq_ignore_ascii_case(b"OR") {
-        return Some(Token::Infix(Operator::Or));
-    }
-    if word.eq_ignore_ascii_case(b"NOT") {
-        return Some(Token::Mark(Mark::Not));
-    }
-    if word.eq_ignore_ascii_case(b"BETWEEN") {
-        return Some(Token::Mark(Mark::Between));
-    }
-    if word.eq_ignore_ascii_case(b"IN") {
-        return Some(Token::Mark(Mark::In));
-    }
-    if word.eq_ignore_ascii_case(b"LIKE") {
-        return Some(Token::Mark(Mark::Like));
-    }
-    if word.eq_ignore_ascii_case(b"ESCAPE") {
-        return Some(Token::Mark(Mark::Escape));
-    }
-    if word.eq_ignore_ascii_case(b"IS") {
-        return Some(Token::Mark(Mark::Is));
-    }
-    if word.eq_ignore_ascii_case(b"NULL") {
-        return Some(Token::Mark(Mark::Null));
-    }
-    if word.eq_ignore_ascii_case(b"TRUE") {
-        return Some(Token::Mark(Mark::True));
-    }
-    if word.eq_ignore_ascii_case(b"FALSE") {
-        return Some(Token::Mark(Mark::False));
-    }
-    None
 }
 
 fn number_at(text: &[u8]) -> Option<(Token, usize)>
@@ -175,21 +149,11 @@ fn number_at(text: &[u8]) -> Option<(Token, usize)>
     let len = digits_len(text);
     let digits = &text[..len];
     let rest = &text[len..];
-    if begins_with_point(rest) {
-        let more = &rest[1..];
+    if byte_at(rest, 0) == b'.' {
+        let more = without_first(rest);
         return pointed(digits, &more[..digits_len(more)]);
     }
     number_token(len, joined(whole_or_none(digits), Some(0)))
-}
-
-fn begins_with_point(text: &[u8]) -> bool
-    ensures value { result ≡ (slice_index text.now 0 == 46) }
-    ensures some { result ≡ true → 0 < length text.now }
-{
-    match text.first() {
-        Some(b) => *b == b'.',
-        None => false,
-    }
 }
 
 fn pointed(digits: &[u8], decimals: &[u8]) -> Option<(Token, usize)>
@@ -229,18 +193,6 @@ fn joined(whole: Option<u64>, millionths: Option<u64>) -> Option<Fixed>
         (Some(whole), Some(millionths)) => bounded(whole, millionths),
         _ => None,
     }
-}
-
-// Whole and millionths together. None exactly above the greatest magnitude.
-fn bounded(whole: u64, millionths: u64) -> Option<Fixed>
-    requires { millionths < 1000000 }
-    ensures { result ≡ bounded whole millionths }
-{
-    let magnitude = u128::from(whole) * 1_000_000 + u128::from(millionths);
-    if magnitude > GREATEST_FIXED {
-        return None;
-    }
-    Fixed::new(magnitude as i128)
 }
 
 fn number_token(len: usize, number: Option<Fixed>) -> Option<(Token, usize)>

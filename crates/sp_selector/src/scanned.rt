@@ -9,8 +9,7 @@ use crate::tree::Operator;
 use std::alloc::{AllocError, Global};
 use std::marker::Model;
 
-/// The tokens of a text with their offsets. They end at the text's length or, where no token
-/// begins, at that offset; then they aren't whole.
+/// The tokens of a text with their offsets, up to its end or, not whole, to where none begins.
 #[derive(Drop)]
 pub struct Scanned {
     tokens: Vec<Token>,
@@ -28,13 +27,6 @@ impl Model for Scanned {
 }
 
 impl Scanned {
-    /// The tokens of a text.
-    pub fn scan(alloc: Global, text: &[u8]) -> Result<Scanned, AllocError>
-        ensures { IfOk result (λ s. s ≡ scan 0 0 text.now) }
-    {
-        scan(alloc, text)
-    }
-
     /// The tokens from the left.
     pub fn tokens(&self) -> &[Token]
         ensures { result.now ≡ self.now.tokens }
@@ -60,7 +52,8 @@ impl Scanned {
     }
 }
 
-fn scan(alloc: Global, text: &[u8]) -> Result<Scanned, AllocError>
+/// The tokens of a text.
+pub fn scan(alloc: Global, text: &[u8]) -> Result<Scanned, AllocError>
     ensures { IfOk result (λ s. s ≡ scan 0 0 text.now) }
 {
     let mut tokens = Vec::new(alloc);

@@ -9,7 +9,7 @@ ghost use Rattle.sp_selector.specs.Values.{value};
 use crate::datum::Datum;
 use crate::evaluate::evaluate;
 use crate::parse::{Chain, ParseError, chained};
-use crate::scanned::{Scanned, allowed};
+use crate::scanned::{Scanned, allowed, scan};
 use crate::token::Token;
 use crate::tree::Tree;
 use sp_message::message::Message;
@@ -100,7 +100,7 @@ fn read_tree(alloc: Global, text: &[u8]) -> Result<Tree, SelectorError>
     if let Some(at) = first_bad_byte(text) {
         return Err(SelectorError::Bad { at: at as u64 });
     }
-    let scanned = Scanned::scan(alloc, text)?;
+    let scanned = scan(alloc, text)?;
     judge(alloc, &scanned)
 }
 

@@ -9,6 +9,7 @@ use sp_message::value::{Fixed, Value};
 use std::alloc::Global;
 use std::process::Abort;
 use std::test::Fail;
+use std::thread::Builder;
 
 fn message(alloc: Global, properties: Properties) -> Result<Message, Fail> {
     Ok(Message {
@@ -285,14 +286,68 @@ fn lengths_and_counted_tokens_have_limits(rt: HostRuntime) -> Result<(), Fail> {
     Ok(())
 }
 
-// A chain of 999 products groups into a tree that is as deep; the pattern has 400 percent signs.
+// The longest chain of each operator, the most signs and NOTs, and whether it is taken. A chain
+// groups into a tree that is as deep as it is long.
+const LONGEST: [(&str, usize, &str, bool); 12] = [
+    ("1OR ", 499, "TRUE", true),
+    ("1AND ", 399, "1", false),
+    ("t AND ", 332, "t", true),
+    ("1+", 200, "1=201", true),
+    ("1-", 199, "1=-198", true),
+    ("1*", 998, "1=1", true),
+    ("1/", 998, "1=1", true),
+    ("NOT ", 200, "t", true),
+    ("+", 200, "a=7", true),
+    ("-", 200, "a=7", true),
+    ("1/1*", 498, "1=1", true),
+    ("f OR ", 399, "t", true),
+];
+
+// How many of the texts are selectors that take the message or not, as they should.
+fn right_values(alloc: Global, texts: &[(String, bool)], message: &Message) -> usize {
+    let right = texts.iter().filter(|row| match Selector::read(alloc, row.0.as_bytes()) {
+        Ok(selector) => selector.takes(message) == row.1,
+        Err(_) => false,
+    });
+    right.count()
+}
+
 #[test]
-fn deep_trees_and_long_patterns_have_a_value(rt: HostRuntime) -> Result<(), Fail> {
+fn the_longest_chains_have_a_value_on_a_stack_of_2_mib(rt: HostRuntime) -> Result<(), Fail> {
     let alloc = rt.alloc();
-    let product = repeated(alloc, "1*", 996, "1 = 1")?;
+    let message = six(alloc)?;
+    let mut texts = Vec::new(alloc);
+    for (piece, times, end, taken) in LONGEST {
+        texts.push((repeated(alloc, piece, times, end)?, taken))?;
+    }
+    let thread = Builder::new()
+        .stack_size(2 << 20)
+        .spawn(&rt, move || right_values(alloc, texts.as_slice(), &message))?;
+    assert_eq!(rt; thread.join(&rt), LONGEST.len());
+    Ok(())
+}
+
+// Reading goes through all levels of the grammar once for each parenthesis.
+#[test]
+fn nested_parentheses_are_read_on_a_stack_of_4_mib(rt: HostRuntime) -> Result<(), Fail> {
+    let alloc = rt.alloc();
+    let message = six(alloc)?;
+    let nested = repeated(alloc, "(", 200, "t")?;
+    let closed = repeated(alloc, ")", 200, "")?;
+    let mut texts = Vec::new(alloc);
+    texts.push((format!(in alloc; "{nested}{closed}")?, true))?;
+    let thread = Builder::new()
+        .stack_size(4 << 20)
+        .spawn(&rt, move || right_values(alloc, texts.as_slice(), &message))?;
+    assert_eq!(rt; thread.join(&rt), 1);
+    Ok(())
+}
+
+#[test]
+fn long_patterns_have_a_value(rt: HostRuntime) -> Result<(), Fail> {
+    let alloc = rt.alloc();
     let long = repeated(alloc, "a", 8192, "")?;
     let message = with_one(alloc, "x", text(alloc, long.as_str())?)?;
-    assert!(rt; takes(alloc, product.as_str(), &message)?);
     let mut pattern = repeated(alloc, "%a", 400, "")?;
     pattern.push_str("%b")?;
     let selector = format!(in alloc; "x LIKE '{}'", pattern.as_str())?;

@@ -27,9 +27,9 @@ deduped xs e =
 
 -- the endpoints with a plain subscription that matches, sorted, once each, and without those with an
 -- exception that matches, are those whose subscriptions take the topic
-pub taken : (tree : Entries) (topic : List ℕ) (selected sorted : List ℕ) → ((e : ℕ) → list_any (λ n. n == e) selected ≡ list_any (λ p. p.endpoint == e && selects p.subscription topic) tree.pairs) → IsPermutation selected sorted → (e : ℕ) → list_any (λ n. n == e) (filter (λ n. not (list_any (λ p. p.endpoint == n && excepts p.subscription topic) tree.pairs)) (dedup eqb sorted)) ≡ takes (texts_of tree e) topic
+pub taken : (tree : Entries) (topic : List ℕ) (selected sorted : List ℕ) → ((e : ℕ) → list_any (λ n. n == e) selected ≡ list_any (λ p. p.0 == e && selects p.1 topic) tree.pairs) → IsPermutation selected sorted → (e : ℕ) → list_any (λ n. n == e) (filter (λ n. not (list_any (λ p. p.0 == n && excepts p.1 topic) tree.pairs)) (dedup eqb sorted)) ≡ takes (texts_of tree e) topic
 taken tree topic selected sorted from moved e =
-    let plain = λ (n : ℕ). not (list_any (λ p. p.endpoint == n && excepts p.subscription topic) tree.pairs) in
+    let plain = λ (n : ℕ). not (list_any (λ p. p.0 == n && excepts p.1 topic) tree.pairs) in
     any-filter_same (λ n. n == e) plain (plain e) (λ n h. ap plain (eqb-true n e h)) (dedup eqb sorted)
     ∙ ap (λ t. plain e && t) (deduped sorted e ∙ sym (list_any-IsPermutation (λ n. n == e) selected sorted moved) ∙ from e ∙ sym (texts_pass (λ s. selects s topic) tree e))
     ∙ ap (λ t. not t && list_any (λ s. selects s topic) (texts_of tree e)) (sym (texts_pass (λ s. excepts s topic) tree e))

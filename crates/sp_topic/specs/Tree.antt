@@ -1,22 +1,21 @@
 -- What a tree of subscriptions holds.
 use Rattle.std.specs.Prelude.{◌≡◌, ◌==◌, ℕ, Bool, true, ◌&&◌, ◌||◌, not, List, map, filter, bytes_eq}
 use Rattle.std.specs.List.{list_any}
-use Rattle.sp_topic.specs.declared.tree.Pair.{Pair}
 use Rattle.sp_topic.specs.Subscriptions.{has_text}
 
 -- the pairs of an endpoint and a subscription, whose order counts for nothing, and the subscriptions
 -- that may be inserted without memory
 pub record Entries : Type 0 where
-  pub pairs : List Pair
+  pub pairs : List (ℕ × List ℕ)
   pub prepared : List (List ℕ)
 
 -- the subscriptions that the tree holds for an endpoint
 unfoldable pub texts_of : Entries → ℕ → List (List ℕ)
-texts_of tree endpoint = map (λ p. p.subscription) (filter (λ p. p.endpoint == endpoint) tree.pairs)
+texts_of tree endpoint = map (λ p. p.1) (filter (λ p. p.0 == endpoint) tree.pairs)
 
 -- the tree holds the subscription for the endpoint
 unfoldable pub has_pair : Entries → ℕ → List ℕ → Bool
-has_pair tree endpoint text = list_any (λ p. p.endpoint == endpoint && bytes_eq p.subscription text) tree.pairs
+has_pair tree endpoint text = list_any (λ p. p.0 == endpoint && bytes_eq p.1 text) tree.pairs
 
 -- the next insert of the subscription takes no memory
 unfoldable pub has_room : Entries → List ℕ → Bool

@@ -11,19 +11,13 @@ use sp_base::topic::Topic;
 use std::alloc::{AllocError, Global};
 use std::marker::Model;
 
-/// A subscription of an endpoint.
-#[derive(Debug, Drop)]
-struct Pair {
-    endpoint: EndpointNo,
-    subscription: Subscription,
-}
-
 /// The subscriptions of all endpoints, from which the endpoints that take a topic are found.
 /// Contracts see which endpoint has which subscription, and which ones may be inserted without
 /// memory.
 #[derive(Debug, Drop)]
 pub struct Tree {
-    pairs: Vec<Pair>,
+    // An endpoint and a subscription that it has.
+    pairs: Vec<(EndpointNo, Subscription)>,
     prepared: Vec<Subscription>,
 }
 
@@ -57,11 +51,14 @@ impl Tree {
     pub fn has(&self, endpoint: EndpointNo, subscription: &Subscription) -> bool
         ensures { result ≡ has_pair self.now endpoint subscription.now }
     {
-        self.pairs.iter().any(|p| p.endpoint == endpoint && p.subscription.same(subscription))
+        self.pairs
+            .iter()
+            .any(|p| p.0 == endpoint && p.1.same(subscription))
     }
 
     /// Makes room, so that the next `insert` of the subscription takes no memory, for whichever
-    /// endpoint. The tree holds what it held, and what was reserved before stays reserved.
+    /// endpoint. The tree holds what it held. What was reserved before for other subscriptions stays
+    /// reserved until they are inserted, so that room for several can be made ahead, one after another.
     pub fn reserve(&mut self, subscription: &Subscription) -> Result<(), AllocError>
         ensures pairs { SamePairs self.old self.new }
         ensures room { OnOk result (has_room self.new subscription.now ≡ true) }
@@ -104,7 +101,8 @@ impl Tree {
         ensures pairs { TakesPairOut self.old self.new endpoint subscription.now }
         ensures room { KeepsRoom self.old self.new }
     {
-        self.pairs.retain(|p| !(p.endpoint == endpoint && p.subscription.same(subscription)));
+        self.pairs
+            .retain(|p| !(p.0 == endpoint && p.1.same(subscription)));
     }
 
     /// Makes `into` the endpoints whose subscriptions here take the topic, each once, in rising
@@ -130,12 +128,12 @@ impl Tree {
     fn selected(&self, topic: &Topic, into: &mut Vec<EndpointNo>) -> Result<(), AllocError>
         ensures { OnOk result
             ((e : ℕ) → list_any (λ n. n == e) into.new.items
-            ≡ list_any (λ p. p.endpoint == e && selects p.subscription topic.now) self.now.pairs) }
+            ≡ list_any (λ p. p.0 == e && selects p.1 topic.now) self.now.pairs) }
     {
         into.clear();
         for pair in &self.pairs {
-            if pair.subscription.selects(topic) {
-                into.push(pair.endpoint)?;
+            if pair.1.selects(topic) {
+                into.push(pair.0)?;
             }
         }
         Ok(())
@@ -144,9 +142,11 @@ impl Tree {
     /// Whether an exception of the endpoint matches the topic.
     fn excepts(&self, endpoint: EndpointNo, topic: &Topic) -> bool
         ensures { result
-            ≡ list_any (λ p. p.endpoint == endpoint && excepts p.subscription topic.now) self.now.pairs }
+            ≡ list_any (λ p. p.0 == endpoint && excepts p.1 topic.now) self.now.pairs }
     {
-        self.pairs.iter().any(|p| p.endpoint == endpoint && p.subscription.excepts(topic))
+        self.pairs
+            .iter()
+            .any(|p| p.0 == endpoint && p.1.excepts(topic))
     }
 
     #[tactic(auto, unfolding(crate::specs::Tree::has_room))]
@@ -173,10 +173,7 @@ impl Tree {
             unreachable!()
         };
         let own = self.prepared.remove(at);
-        match self.pairs.push(Pair {
-            endpoint,
-            subscription: own,
-        }) {
+        match self.pairs.push((endpoint, own)) {
             Ok(()) => {}
             Err(_) => unreachable!(),
         }

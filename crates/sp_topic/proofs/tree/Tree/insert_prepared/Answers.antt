@@ -14,7 +14,7 @@ pub returns-clause-pairs : goal.returns-clause-pairs
 returns-clause-pairs c =
     let own : c.remove-own.result ≡ c.args.subscription.now =
     c.remove-own.ensures.value ∙ found_text c.self.inside.prepared.items c.args.subscription.now c.in-Some.at c.remove-own.result (rw (← c.self.view_is) at (sym c.in-Some.ensures)) in
-    rw (← c.self.view_is, c.in-Ok.ensures.items, ← own) (pairs_pushed c.self.inside.pairs.items (record { endpoint = c.args.endpoint; subscription = c.remove-own.result }) c.self.inside.prepared.items c.remove-own.new.self.items)
+    rw (← c.self.view_is, c.in-Ok.ensures.items, ← own) (pairs_pushed c.self.inside.pairs.items (c.args.endpoint, c.remove-own.result) c.self.inside.prepared.items c.remove-own.new.self.items)
 
 pub returns-clause-room : goal.returns-clause-room
 returns-clause-room c = λ text other h.

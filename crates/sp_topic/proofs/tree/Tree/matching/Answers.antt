@@ -11,9 +11,9 @@ use Rattle.sp_topic.proofs.tree.Tree.matching.Goals as goal
 use Rattle.sp_topic.proofs.tree.Tree.matching.Goals.{After-retain}
 
 -- what is left is the sorted list, each number once, without the endpoints that have an exception
-left_is : (c : After-retain) → c.retain.new.self.items ≡ filter (λ n. not (list_any (λ p. p.endpoint == n && excepts p.subscription c.args.topic.now) c.args.self.now.pairs)) (dedup eqb c.sort_unstable.new.self.items)
+left_is : (c : After-retain) → c.retain.new.self.items ≡ filter (λ n. not (list_any (λ p. p.0 == n && excepts p.1 c.args.topic.now) c.args.self.now.pairs)) (dedup eqb c.sort_unstable.new.self.items)
 left_is c =
-    let plain = λ (n : ℕ). not (list_any (λ p. p.endpoint == n && excepts p.subscription c.args.topic.now) c.args.self.now.pairs) in
+    let plain = λ (n : ℕ). not (list_any (λ p. p.0 == n && excepts p.1 c.args.topic.now) c.args.self.now.pairs) in
     filter_same _ plain _ (λ x b f k. search rules) c.dedup.new.self.items c.retain.new.self.items c.retain.ensures.filtered
     ∙ ap (filter plain) (dedup_is _ _ _ c.dedup.ensures.filtered)
 

@@ -7,7 +7,7 @@ use Rattle.sp_topic.proofs.tree.Tree.remove.Goals as goal
 
 pub returns-clause-pairs : goal.returns-clause-pairs
 returns-clause-pairs c =
-    let kept = filter_same _ (λ p. not (p.endpoint == c.args.endpoint && bytes_eq p.subscription c.args.subscription.now)) _ (λ x b f k. search rules) c.self.inside.pairs.items c.retain.new.self.items c.retain.ensures.filtered in
+    let kept = filter_same _ (λ p. not (p.0 == c.args.endpoint && bytes_eq p.1 c.args.subscription.now)) _ (λ x b f k. search rules) c.self.inside.pairs.items c.retain.new.self.items c.retain.ensures.filtered in
     rw (← c.self.view_is, kept) (pairs_kept c.self.inside.pairs.items c.self.inside.prepared.items c.args.endpoint c.args.subscription.now)
 
 pub returns-clause-room : goal.returns-clause-room

@@ -6,4 +6,4 @@ use Rattle.sp_topic.proofs.tree.Tree.selected.Given as goal
 
 abbrev pub invariant-loop-pair : goal.invariant-loop-pair
 invariant-loop-pair l =
-    (e : ℕ) → list_any (λ n. n == e) l.into.items ≡ list_any (λ p. p.endpoint == e && selects p.subscription l.topic) (take l.pair-index l.self.pairs)
+    (e : ℕ) → list_any (λ n. n == e) l.into.items ≡ list_any (λ p. p.0 == e && selects p.1 l.topic) (take l.pair-index l.self.pairs)
