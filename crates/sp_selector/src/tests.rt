@@ -320,9 +320,10 @@ fn the_longest_chains_have_a_value_on_a_stack_of_2_mib(rt: HostRuntime) -> Resul
     for (piece, times, end, taken) in LONGEST {
         texts.push((repeated(alloc, piece, times, end)?, taken))?;
     }
-    let thread = Builder::new()
-        .stack_size(2 << 20)
-        .spawn(&rt, move || right_values(alloc, texts.as_slice(), &message))?;
+    let thread = Builder::new().stack_size(2 << 20).spawn(
+        &rt,
+        move || right_values(alloc, texts.as_slice(), &message),
+    )?;
     assert_eq!(rt; thread.join(&rt), LONGEST.len());
     Ok(())
 }
@@ -336,9 +337,10 @@ fn nested_parentheses_are_read_on_a_stack_of_4_mib(rt: HostRuntime) -> Result<()
     let closed = repeated(alloc, ")", 200, "")?;
     let mut texts = Vec::new(alloc);
     texts.push((format!(in alloc; "{nested}{closed}")?, true))?;
-    let thread = Builder::new()
-        .stack_size(4 << 20)
-        .spawn(&rt, move || right_values(alloc, texts.as_slice(), &message))?;
+    let thread = Builder::new().stack_size(4 << 20).spawn(
+        &rt,
+        move || right_values(alloc, texts.as_slice(), &message),
+    )?;
     assert_eq!(rt; thread.join(&rt), 1);
     Ok(())
 }
