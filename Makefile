@@ -1,4 +1,4 @@
-# `make first` runs the main job, `make test` is the gate, `make` alone is `make help`.
+# `make first` runs the main job, `make test` is the gate and the examples, `make` alone is `make help`.
 .PHONY: help first examples tapes test clean
 
 # Lists the targets.
@@ -26,6 +26,7 @@ tapes:
 
 test:
 	@.ci/run
+	@$(MAKE) --no-print-directory examples >&2
 
 clean:
 	rm -rf crates/*/out
