@@ -26,7 +26,6 @@ tapes:
 
 test:
 	@.ci/run
-	@$(MAKE) --no-print-directory examples >&2
 
 clean:
 	rm -rf crates/*/out

@@ -1,6 +1,11 @@
 pub mod Causes
+pub mod Choice
+pub mod Declined
 pub mod Devices
 pub mod Name
 pub mod Refusal
 pub mod Rows
+pub mod RowsLent
+pub mod Shown
 pub mod Topic
+pub mod Words

@@ -3,6 +3,8 @@
 #![tactic(auto)]
 
 pub mod bytes;
+pub mod choice;
+pub mod declined;
 pub mod failure;
 pub mod io;
 pub mod items;

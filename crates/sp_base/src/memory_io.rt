@@ -1,5 +1,9 @@
-ghost use Rattle.std.specs.Prelude.{◌≡◌, ◌≤◌, ◌<◌, ◌+◌, [], Some, drop, length, ℕ, min};
+ghost use Rattle.std.specs.Prelude.{◌≡◌, ◌≤◌, ◌<◌, ◌==◌, [], true, false, Some, is_err, length, IfOk, OnOk};
+ghost use Rattle.std.specs.List.{list_any};
+ghost use Rattle.std.specs.Io.{ReadsAtMost, WritesAtMost};
+ghost use Rattle.std.specs.Io.KnownBytes.{ReadConsumes, WriteAppends, Keeps};
 ghost use Rattle.sp_base.specs.Causes.{HasCause, Rose};
+ghost use Rattle.sp_base.specs.Devices.{fails_next, one_more};
 
 use crate::failure::Failed;
 use crate::io::{Sink, Source};
@@ -18,7 +22,9 @@ struct Calls {
 
 impl Calls {
     fn new(failing: Vec<u64>) -> Calls
-        ensures { result.faults ≡ 0 }
+        ensures made { result.made ≡ 0 }
+        ensures failing { result.failing.items ≡ failing.items }
+        ensures faults { result.faults ≡ 0 }
     {
         Calls {
             made: 0,
@@ -29,18 +35,29 @@ impl Calls {
 
     // Counts a call, and a fault where it is one that fails.
     fn next(&mut self) -> Result<(), Failed>
-        ensures { HasCause self.old.faults self.new.faults result }
+        ensures cause { HasCause self.old.faults self.new.faults result }
+        ensures made { self.new.made ≡ one_more self.old.made }
+        ensures failing { self.new.failing.items ≡ self.old.failing.items }
+        ensures fails { is_err result ≡ list_any (λ n. n == one_more self.old.made) self.old.failing.items }
     {
         self.made = self.made.saturating_add(1);
-        if self.failing.contains(&self.made) {
+        if self.is_failing() {
             return Err(self.fail());
         }
         Ok(())
     }
 
+    fn is_failing(&self) -> bool
+        ensures { result ≡ list_any (λ n. n == self.now.made) self.now.failing.items }
+    {
+        self.failing.iter().any(|n| *n == self.made)
+    }
+
     fn fail(&mut self) -> Failed
         ensures rose { Rose self.old.faults self.new.faults }
         ensures later { self.old.faults ≤ self.new.faults }
+        ensures made { self.new.made ≡ self.old.made }
+        ensures failing { self.new.failing.items ≡ self.old.failing.items }
     {
         self.faults = self.faults.saturating_add(1);
         Failed
@@ -63,7 +80,7 @@ impl Model for MemorySource {
 
     ghost Value = { Stream };
 
-    ghost view = { λ s. record { bytes = drop s.at s.bytes.items; faults = s.calls.faults } };
+    ghost view = { λ s. record { bytes = drop s.at s.bytes.items; faults = s.calls.faults; calls = s.calls.made; failing = s.calls.failing.items } };
 
     ghost invariant = { λ s. (s.at ≤ vec_len s.bytes) × (0 < s.piece) };
 }
@@ -72,8 +89,7 @@ impl MemorySource {
     /// A source of these bytes that gives at most `piece` of them at a time, or one where `piece`
     /// is 0. Its calls whose numbers, from 1, stand in `failing` fail.
     pub fn new(bytes: Vec<u8>, piece: usize, failing: Vec<u64>) -> MemorySource
-        ensures left { result.bytes ≡ bytes.items }
-        ensures faults { result.faults ≡ 0 }
+        ensures { result ≡ record { bytes = bytes.items; faults = 0; calls = 0; failing = failing.items } }
     {
         MemorySource {
             bytes,
@@ -89,7 +105,15 @@ impl Source for MemorySource {
 
     ghost faults = { λ s. s.faults };
 
-    fn read(&mut self, into: &mut [u8]) -> Result<usize, Failed> {
+    /// It fails exactly where the call's number is in the list.
+    fn read(&mut self, into: &mut [u8]) -> Result<usize, Failed>
+        ensures within { ReadsAtMost result into.new }
+        ensures bytes { ReadConsumes (Some self.old.bytes) (Some self.new.bytes) result into.new }
+        ensures cause { HasCause self.old.faults self.new.faults result }
+        ensures fails { is_err result ≡ fails_next self.old }
+        ensures calls { self.new.calls ≡ one_more self.old.calls }
+        ensures failing { self.new.failing ≡ self.old.failing }
+    {
         self.calls.next()?;
         let count = fill(into, &self.bytes[self.at..], self.piece);
         self.at += count;
@@ -112,7 +136,7 @@ impl Model for MemorySink {
 
     ghost Value = { Stream };
 
-    ghost view = { λ s. record { bytes = s.bytes.items; faults = s.calls.faults } };
+    ghost view = { λ s. record { bytes = s.bytes.items; faults = s.calls.faults; calls = s.calls.made; failing = s.calls.failing.items } };
 
     ghost invariant = { λ s. 0 < s.piece };
 }
@@ -121,8 +145,7 @@ impl MemorySink {
     /// An empty sink that takes at most `piece` bytes at a time, or one where `piece` is 0. Its
     /// calls whose numbers, from 1, stand in `failing` fail.
     pub fn new(alloc: Global, piece: usize, failing: Vec<u64>) -> MemorySink
-        ensures written { result.bytes ≡ [] }
-        ensures faults { result.faults ≡ 0 }
+        ensures { result ≡ record { bytes = []; faults = 0; calls = 0; failing = failing.items } }
     {
         MemorySink {
             bytes: Vec::new(alloc),
@@ -144,7 +167,16 @@ impl Sink for MemorySink {
 
     ghost faults = { λ s. s.faults };
 
-    fn write(&mut self, bytes: &[u8]) -> Result<usize, Failed> {
+    /// It fails where the call's number is in the list, and where there is no memory for the bytes.
+    fn write(&mut self, bytes: &[u8]) -> Result<usize, Failed>
+        ensures within { WritesAtMost result bytes.now }
+        ensures some { IfOk result (λ n. 0 < length bytes.now → 0 < n) }
+        ensures bytes { WriteAppends (Some self.old.bytes) (Some self.new.bytes) result bytes.now }
+        ensures cause { HasCause self.old.faults self.new.faults result }
+        ensures fails { OnOk result (fails_next self.old ≡ false) }
+        ensures calls { self.new.calls ≡ one_more self.old.calls }
+        ensures failing { self.new.failing ≡ self.old.failing }
+    {
         self.calls.next()?;
         let count = bytes.len().min(self.piece);
         match self.bytes.extend_from_slice(&bytes[..count]) {
@@ -153,7 +185,14 @@ impl Sink for MemorySink {
         }
     }
 
-    fn flush(&mut self) -> Result<(), Failed> {
+    /// It fails exactly where the call's number is in the list.
+    fn flush(&mut self) -> Result<(), Failed>
+        ensures bytes { Keeps (Some self.old.bytes) (Some self.new.bytes) }
+        ensures cause { HasCause self.old.faults self.new.faults result }
+        ensures fails { is_err result ≡ fails_next self.old }
+        ensures calls { self.new.calls ≡ one_more self.old.calls }
+        ensures failing { self.new.failing ≡ self.old.failing }
+    {
         self.calls.next()
     }
 }

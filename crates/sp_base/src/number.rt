@@ -1,171 +1,103 @@
-ghost use Rattle.std.specs.Prelude.{◌≡◌};
+ghost use Rattle.std.specs.Prelude.{◌≡◌, ◌≤◌, SomeIff};
 
-use std::marker::Model;
+use std::marker::{Model, PhantomData};
 
-/// The number of an endpoint, drawn from 1 upwards.
-#[derive(Clone, Copy, Debug, PartialEq, Eq, PartialOrd, Ord)]
-pub struct EndpointNo(u64);
+/// A number of a kind `K`, from `LEAST` to `MOST`. Types tell kinds apart; contracts see the number.
+#[derive(Drop)]
+#[derive_where(Clone, Copy, Debug, PartialEq, Eq, PartialOrd, Ord)]
+pub struct Ranged<K, const LEAST: u64, const MOST: u64> {
+    value: u64,
+    kind: PhantomData<K>,
+}
 
-impl Model for EndpointNo {
-    ghost use Rattle.std.specs.Prelude.{ℕ};
+impl<K, const LEAST: u64, const MOST: u64> Model for Ranged<K, LEAST, MOST> {
+    ghost use Rattle.std.specs.Prelude.{ℕ, ◌≤◌};
 
     ghost Value = { ℕ };
 
-    ghost view = { λ n. n.0 };
+    ghost view = { λ n. n.value };
 
-    ghost inverse = { λ n. record { 0 = n } };
+    ghost invariant = { λ n. (LEAST ≤ n.value) × (n.value ≤ MOST) };
+
+    ghost inverse = { λ n. record { value = n; kind = record {} } };
 }
 
-impl EndpointNo {
-    pub fn new(value: u64) -> EndpointNo
+impl<K, const LEAST: u64, const MOST: u64> Ranged<K, LEAST, MOST> {
+    /// The number of this value. None exactly outside the range.
+    pub fn new(value: u64) -> Option<Self>
+        ensures { SomeIff result ((LEAST ≤ value) × (value ≤ MOST)) value }
+    {
+        if value < LEAST || value > MOST {
+            return None;
+        }
+        Some(Ranged {
+            value,
+            kind: PhantomData,
+        })
+    }
+
+    /// The number of a value that is known to be in the range.
+    pub fn of(value: u64) -> Self
+        requires least { LEAST ≤ value }
+        requires most { value ≤ MOST }
         ensures { result ≡ value }
     {
-        EndpointNo(value)
+        Ranged {
+            value,
+            kind: PhantomData,
+        }
     }
 
     pub fn value(self) -> u64
-        ensures { result ≡ self }
+        ensures value { result ≡ self }
+        ensures least { LEAST ≤ self }
+        ensures most { self ≤ MOST }
     {
-        self.0
+        self.value
     }
 }
 
-/// The number of a message, drawn from 1 upwards.
-#[derive(Clone, Copy, Debug, PartialEq, Eq, PartialOrd, Ord)]
-pub struct MessageNo(u64);
+/// The greatest number of anything that is numbered, 2^62.
+pub const GREATEST_NUMBER: u64 = 4_611_686_018_427_387_904;
 
-impl Model for MessageNo {
-    ghost use Rattle.std.specs.Prelude.{ℕ};
+/// What a number counts.
+#[derive(Clone, Copy, Debug, PartialEq, Eq)]
+pub struct OfEndpoints;
 
-    ghost Value = { ℕ };
+/// What a number counts.
+#[derive(Clone, Copy, Debug, PartialEq, Eq)]
+pub struct OfMessages;
 
-    ghost view = { λ n. n.0 };
+/// What a number counts.
+#[derive(Clone, Copy, Debug, PartialEq, Eq)]
+pub struct OfCopies;
 
-    ghost inverse = { λ n. record { 0 = n } };
-}
+/// What a number counts.
+#[derive(Clone, Copy, Debug, PartialEq, Eq)]
+pub struct OfFlows;
 
-impl MessageNo {
-    pub fn new(value: u64) -> MessageNo
-        ensures { result ≡ value }
-    {
-        MessageNo(value)
-    }
+/// What a number counts.
+#[derive(Clone, Copy, Debug, PartialEq, Eq)]
+pub struct OfReplays;
 
-    pub fn value(self) -> u64
-        ensures { result ≡ self }
-    {
-        self.0
-    }
-}
+/// What a number counts.
+#[derive(Clone, Copy, Debug, PartialEq, Eq)]
+pub struct OfUnits;
 
-/// The number of a copy, drawn from 1 upwards.
-#[derive(Clone, Copy, Debug, PartialEq, Eq, PartialOrd, Ord)]
-pub struct CopyNo(u64);
+/// The number of an endpoint, drawn from 1 upwards; 0 is no endpoint's.
+pub type EndpointNo = Ranged<OfEndpoints, 0, GREATEST_NUMBER>;
 
-impl Model for CopyNo {
-    ghost use Rattle.std.specs.Prelude.{ℕ};
+/// The number of a message, drawn from 1 upwards; 0 is no message's.
+pub type MessageNo = Ranged<OfMessages, 0, GREATEST_NUMBER>;
 
-    ghost Value = { ℕ };
+/// The number of a copy, drawn from 1 upwards; 0 is no copy's.
+pub type CopyNo = Ranged<OfCopies, 0, GREATEST_NUMBER>;
 
-    ghost view = { λ n. n.0 };
+/// The number of a flow, drawn from 1 upwards; 0 is no flow's.
+pub type FlowNo = Ranged<OfFlows, 0, GREATEST_NUMBER>;
 
-    ghost inverse = { λ n. record { 0 = n } };
-}
+/// The number of a replay, drawn from 1 upwards; 0 is no replay's.
+pub type ReplayNo = Ranged<OfReplays, 0, GREATEST_NUMBER>;
 
-impl CopyNo {
-    pub fn new(value: u64) -> CopyNo
-        ensures { result ≡ value }
-    {
-        CopyNo(value)
-    }
-
-    pub fn value(self) -> u64
-        ensures { result ≡ self }
-    {
-        self.0
-    }
-}
-
-/// The number of a flow, drawn from 1 upwards.
-#[derive(Clone, Copy, Debug, PartialEq, Eq, PartialOrd, Ord)]
-pub struct FlowNo(u64);
-
-impl Model for FlowNo {
-    ghost use Rattle.std.specs.Prelude.{ℕ};
-
-    ghost Value = { ℕ };
-
-    ghost view = { λ n. n.0 };
-
-    ghost inverse = { λ n. record { 0 = n } };
-}
-
-impl FlowNo {
-    pub fn new(value: u64) -> FlowNo
-        ensures { result ≡ value }
-    {
-        FlowNo(value)
-    }
-
-    pub fn value(self) -> u64
-        ensures { result ≡ self }
-    {
-        self.0
-    }
-}
-
-/// The number of a replay, drawn from 1 upwards.
-#[derive(Clone, Copy, Debug, PartialEq, Eq, PartialOrd, Ord)]
-pub struct ReplayNo(u64);
-
-impl Model for ReplayNo {
-    ghost use Rattle.std.specs.Prelude.{ℕ};
-
-    ghost Value = { ℕ };
-
-    ghost view = { λ n. n.0 };
-
-    ghost inverse = { λ n. record { 0 = n } };
-}
-
-impl ReplayNo {
-    pub fn new(value: u64) -> ReplayNo
-        ensures { result ≡ value }
-    {
-        ReplayNo(value)
-    }
-
-    pub fn value(self) -> u64
-        ensures { result ≡ self }
-    {
-        self.0
-    }
-}
-
-/// The number of a unit, drawn from 1 upwards.
-#[derive(Clone, Copy, Debug, PartialEq, Eq, PartialOrd, Ord)]
-pub struct UnitNo(u64);
-
-impl Model for UnitNo {
-    ghost use Rattle.std.specs.Prelude.{ℕ};
-
-    ghost Value = { ℕ };
-
-    ghost view = { λ n. n.0 };
-
-    ghost inverse = { λ n. record { 0 = n } };
-}
-
-impl UnitNo {
-    pub fn new(value: u64) -> UnitNo
-        ensures { result ≡ value }
-    {
-        UnitNo(value)
-    }
-
-    pub fn value(self) -> u64
-        ensures { result ≡ self }
-    {
-        self.0
-    }
-}
+/// The number of a unit, drawn from 1 upwards; 0 is no unit's.
+pub type UnitNo = Ranged<OfUnits, 0, GREATEST_NUMBER>;

@@ -1,28 +1,36 @@
-ghost use Rattle.std.specs.Prelude.{◌≡◌, None};
+ghost use Rattle.std.specs.Prelude.{◌≡◌};
 
 use crate::failure::Failed;
 use crate::io::{Sink, Source};
 use std::io::{Read, Write};
 use std::marker::Model;
 
-/// A source over a real reader. It tells nothing of what is left.
+/// A source over a real reader. It tells what is left where the reader does.
 #[derive(Drop)]
 pub struct ReaderSource<R: Read + Drop> {
     reader: R,
     faults: u64,
 }
 
+impl<R: Read + Drop> Model for ReaderSource<R> {
+    ghost use Rattle.sp_base.specs.Devices.{Counted};
+
+    ghost Value = { Counted R };
+
+    ghost view = { λ s. record { stream = s.reader; faults = s.faults } };
+}
+
 impl<R: Read + Drop> ReaderSource<R> {
     /// A source that reads from `reader`.
     pub fn new(reader: R) -> ReaderSource<R>
-        ensures { result.faults ≡ 0 }
+        ensures { result ≡ record { stream = reader; faults = 0 } }
     {
         ReaderSource { reader, faults: 0 }
     }
 }
 
 impl<R: Read + Drop> Source for ReaderSource<R> {
-    ghost left = { λ _. None };
+    ghost left = { λ s. R.remaining s.stream };
 
     ghost faults = { λ s. s.faults };
 
@@ -37,24 +45,32 @@ impl<R: Read + Drop> Source for ReaderSource<R> {
     }
 }
 
-/// A sink over a real writer. It tells nothing of what was written.
+/// A sink over a real writer. It tells what was written where the writer does.
 #[derive(Drop)]
 pub struct WriterSink<W: Write + Drop> {
     writer: W,
     faults: u64,
 }
 
+impl<W: Write + Drop> Model for WriterSink<W> {
+    ghost use Rattle.sp_base.specs.Devices.{Counted};
+
+    ghost Value = { Counted W };
+
+    ghost view = { λ s. record { stream = s.writer; faults = s.faults } };
+}
+
 impl<W: Write + Drop> WriterSink<W> {
     /// A sink that writes to `writer`.
     pub fn new(writer: W) -> WriterSink<W>
-        ensures { result.faults ≡ 0 }
+        ensures { result ≡ record { stream = writer; faults = 0 } }
     {
         WriterSink { writer, faults: 0 }
     }
 }
 
 impl<W: Write + Drop> Sink for WriterSink<W> {
-    ghost written = { λ _. None };
+    ghost written = { λ s. W.contents s.stream };
 
     ghost faults = { λ s. s.faults };
 

@@ -1,10 +1,15 @@
 ghost use Rattle.std.specs.Prelude.{◌≡◌};
-ghost use Rattle.sp_base.specs.Refusal.{number_of};
+ghost use Rattle.sp_base.specs.Refusal.{number_of, rule_name};
+
+pub mod shown;
+#[cfg(test)]
+mod tests;
+mod words;
 
 use crate::text::Str;
 
 /// What a caller who isn't the owner may do with an endpoint, in rising order.
-#[derive(Clone, Copy, Debug, PartialEq, Eq, PartialOrd, Ord)]
+#[derive(Clone, Copy, Debug, PartialEq, Eq)]
 pub enum Permission {
     NoAccess,
     ReadOnly,
@@ -14,7 +19,7 @@ pub enum Permission {
 }
 
 /// What a number is drawn for.
-#[derive(Clone, Copy, Debug, PartialEq, Eq, PartialOrd, Ord)]
+#[derive(Clone, Copy, Debug, PartialEq, Eq)]
 pub enum Kind {
     Endpoint,
     Message,
@@ -138,39 +143,62 @@ pub enum Refusal {
     },
 }
 
+/// A rule that a request may break.
+#[derive(Clone, Copy, Debug)]
+pub struct Rule {
+    /// Its place, from 1 to 27, in the order in which refusals are told.
+    pub number: u8,
+    pub name: &'static str,
+}
+
 impl Refusal {
+    /// The rule that the request breaks.
+    pub fn rule(&self) -> Rule
+        ensures number { result.number ≡ number_of self.now }
+        ensures name { result.name.now ≡ rule_name self.now }
+    {
+        match self {
+            Refusal::BadRequest { .. } => numbered(1, "BadRequest"),
+            Refusal::DirectMode => numbered(2, "DirectMode"),
+            Refusal::BadTopic { .. } => numbered(3, "BadTopic"),
+            Refusal::BadSubscription { .. } => numbered(4, "BadSubscription"),
+            Refusal::BadSelector { .. } => numbered(5, "BadSelector"),
+            Refusal::BadAttribute { .. } => numbered(6, "BadAttribute"),
+            Refusal::UnknownEndpoint { .. } => numbered(7, "UnknownEndpoint"),
+            Refusal::EndpointExists { .. } => numbered(8, "EndpointExists"),
+            Refusal::EndpointLimit { .. } => numbered(9, "EndpointLimit"),
+            Refusal::NoAccess { .. } => numbered(10, "NoAccess"),
+            Refusal::InUse { .. } => numbered(11, "InUse"),
+            Refusal::SubscriptionExists => numbered(12, "SubscriptionExists"),
+            Refusal::SubscriptionLimit { .. } => numbered(13, "SubscriptionLimit"),
+            Refusal::UnknownSubscription => numbered(14, "UnknownSubscription"),
+            Refusal::IngressDisabled { .. } => numbered(15, "IngressDisabled"),
+            Refusal::EgressDisabled { .. } => numbered(16, "EgressDisabled"),
+            Refusal::MessageTooLarge { .. } => numbered(17, "MessageTooLarge"),
+            Refusal::QuotaExceeded { .. } => numbered(18, "QuotaExceeded"),
+            Refusal::VpnQuotaExceeded { .. } => numbered(19, "VpnQuotaExceeded"),
+            Refusal::BindLimit { .. } => numbered(20, "BindLimit"),
+            Refusal::UnknownFlow { .. } => numbered(21, "UnknownFlow"),
+            Refusal::NotHeld { .. } => numbered(22, "NotHeld"),
+            Refusal::ReplayActive { .. } => numbered(23, "ReplayActive"),
+            Refusal::NoReplay => numbered(24, "NoReplay"),
+            Refusal::LogDisabled => numbered(25, "LogDisabled"),
+            Refusal::NotInLog { .. } => numbered(26, "NotInLog"),
+            Refusal::IdsSpent { .. } => numbered(27, "IdsSpent"),
+        }
+    }
+
     /// The number of the rule, from 1 to 27.
     pub fn number(&self) -> u8
         ensures { result ≡ number_of self.now }
     {
-        match self {
-            Refusal::BadRequest { .. } => 1,
-            Refusal::DirectMode => 2,
-            Refusal::BadTopic { .. } => 3,
-            Refusal::BadSubscription { .. } => 4,
-            Refusal::BadSelector { .. } => 5,
-            Refusal::BadAttribute { .. } => 6,
-            Refusal::UnknownEndpoint { .. } => 7,
-            Refusal::EndpointExists { .. } => 8,
-            Refusal::EndpointLimit { .. } => 9,
-            Refusal::NoAccess { .. } => 10,
-            Refusal::InUse { .. } => 11,
-            Refusal::SubscriptionExists => 12,
-            Refusal::SubscriptionLimit { .. } => 13,
-            Refusal::UnknownSubscription => 14,
-            Refusal::IngressDisabled { .. } => 15,
-            Refusal::EgressDisabled { .. } => 16,
-            Refusal::MessageTooLarge { .. } => 17,
-            Refusal::QuotaExceeded { .. } => 18,
-            Refusal::VpnQuotaExceeded { .. } => 19,
-            Refusal::BindLimit { .. } => 20,
-            Refusal::UnknownFlow { .. } => 21,
-            Refusal::NotHeld { .. } => 22,
-            Refusal::ReplayActive { .. } => 23,
-            Refusal::NoReplay => 24,
-            Refusal::LogDisabled => 25,
-            Refusal::NotInLog { .. } => 26,
-            Refusal::IdsSpent { .. } => 27,
-        }
+        self.rule().number
     }
+}
+
+fn numbered(number: u8, name: &'static str) -> Rule
+    ensures number { result.number ≡ number }
+    ensures name { result.name.now ≡ name.now }
+{
+    Rule { number, name }
 }

@@ -1,6 +1,8 @@
-ghost use Rattle.std.specs.Prelude.{◌≡◌, ◌≤◌, ◌<◌, ◌+◌, ◌-◌, ◌++◌, ◌∷◌, [], ℕ, length, OnOk, OnErr, IsOk, IfOk};
+ghost use Rattle.std.specs.Prelude.{◌≡◌, ◌≤◌, ◌<◌, ◌+◌, ◌++◌, ◌∷◌, [], ℕ, length, slice_set, OnOk};
+ghost use Rattle.std.specs.Fn.{CalledAt, ComputesKey};
+ghost use Rattle.std.specs.List.Retain.{IsFiltered};
+ghost use Rattle.sp_base.specs.Rows.{IsPlace};
 
-use crate::items::Items;
 use std::alloc::{AllocError, Global};
 use std::marker::Model;
 
@@ -22,6 +24,9 @@ impl<T> Model for Rows<T> {
 }
 
 impl<T> Rows<T> {
+    ghost use Rattle.std.specs.Borrow.{sem};
+    ghost use Rattle.sp_base.specs.RowsLent.{lends_rows};
+
     /// No rows, and no room.
     pub fn new(alloc: Global) -> Rows<T>
         ensures { result.items ≡ [] }
@@ -75,19 +80,44 @@ impl<T> Rows<T> {
         }
     }
 
-    /// Appends rows where room is reserved, and takes no memory.
-    pub fn add_all(&mut self, more: Items<T>)
+    /// Keeps the rows at which the test gives true, in their order, and their room. Takes no memory.
+    pub fn retain<F: FnMut(&T) -> bool>(&mut self, keep: F)
     where
         T: Drop,
-        requires { length more ≤ self.old.room }
-        ensures items { self.new.items ≡ self.old.items ++ more }
-        ensures room { self.old.room ≤ self.new.room + length more }
+        requires { F.IsAlwaysCallable keep }
+        ensures items { IsFiltered (CalledAt F.FnMut) keep self.old.items self.new.items }
+        ensures room { self.old.room + length self.old.items ≡ self.new.room + length self.new.items }
+        ensures kept { self.old.room ≤ self.new.room }
     {
-        let mut items = more.into_vec();
-        match self.rows.append(&mut items) {
-            Ok(()) => {}
-            Err(_) => unreachable!(),
-        }
+        self.rows.retain(keep);
+    }
+
+    /// Puts a row in the place of the one that stands there. Takes no memory.
+    pub fn replace(&mut self, place: usize, row: T)
+    where
+        T: Drop,
+        requires { place < length self.old.items }
+        ensures items { self.new.items ≡ slice_set self.old.items place row }
+        ensures room { self.new.room ≡ self.old.room }
+    {
+        self.rows[place] = row;
+    }
+
+    /// The rows, to be changed where they stand.
+    pub fn as_mut_slice(&mut self) -> &mut [T]
+        ensures* writes_back { sem 𝓛 (lends_rows T.row self.entry result) }
+        ensures rows { result.now ≡ self.old.items }
+    {
+        self.rows.as_mut_slice()
+    }
+
+    /// The place of the row with a key, where the keys rise strictly: the row there has the key, or
+    /// none has it. It looks at few rows, as one looks a word up.
+    pub fn place_of<F: FnMut(&T) -> u64>(&self, key: u64, of: F) -> Option<usize>
+        requires { F.IsAlwaysCallable of }
+        ensures { (keys : T → ℕ) → ComputesKey F.FnMut keys of → IsPlace keys self.now.items key result }
+    {
+        self.rows.binary_search_by_key(&key, of).ok()
     }
 
     /// The vector with the rows.

@@ -5,7 +5,8 @@ use Rattle.sp_config.specs.declared.attr.Attr.TheVariants as attr
 use Rattle.sp_config.specs.declared.value.AttrValue.{AttrValue}
 use Rattle.sp_config.specs.declared.value.AttrValue.TheVariants.{Whole, Flag, Word, Text}
 use Rattle.sp_config.specs.Attributes.{AttributesView}
-use Rattle.sp_config.specs.Choices.{access_types, permissions, behaviors}
+use Rattle.sp_base.specs.Words.{permissions}
+use Rattle.sp_config.specs.Choices.{access_types, behaviors}
 
 -- the attribute is the value, and all others stay; a value of another kind changes nothing
 unfoldable pub with_value : Attr → AttrValue → AttributesView → AttributesView

@@ -1,5 +1,6 @@
 -- The attributes of an endpoint and their names.
-use Rattle.std.specs.Prelude.{ℕ, List, [], ◌∷◌, Option, find, bytes_eq, codes}
+use Rattle.std.specs.Prelude.{ℕ, List, [], ◌∷◌, Option, codes}
+use Rattle.sp_base.specs.Choice.{choice_named}
 use Rattle.sp_config.specs.declared.attr.Attr.{Attr}
 use Rattle.sp_config.specs.declared.attr.Attr.TheVariants as attr
 
@@ -30,4 +31,4 @@ all_attrs =
 
 -- the attribute of a name
 abbrev pub attr_named : List ℕ → Option Attr
-attr_named name = find (λ a. bytes_eq (name_of a) name) all_attrs
+attr_named name = choice_named name_of all_attrs name

@@ -1,12 +1,12 @@
-ghost use Rattle.std.specs.Prelude.{◌≡◌, find, bytes_eq, Some};
-ghost use Rattle.std.specs.Option.{option_copied};
-ghost use Rattle.sp_config.specs.Names.{name_of, attr_named};
+ghost use Rattle.std.specs.Prelude.{◌≡◌};
+ghost use Rattle.sp_config.specs.Names.{name_of};
 ghost use Rattle.sp_config.specs.Ranges.{range_of};
 ghost use Rattle.sp_config.specs.Settings.{number_of};
 
 mod words;
 
 use crate::range::Range;
+use sp_base::choice::Choice;
 
 /// An attribute of an endpoint. They stand in the byte order of their names.
 #[derive(Clone, Copy, Debug, PartialEq, Eq, PartialOrd, Ord)]
@@ -43,30 +43,46 @@ pub enum Attr {
     RespectTtlEnabled,
 }
 
-impl Attr {
-    /// All attributes, in the order of their names.
-    pub const ALL: [Attr; 15] = [
-        Attr::AccessType,
-        Attr::DeadMsgQueue,
-        Attr::EgressEnabled,
-        Attr::IngressEnabled,
-        Attr::MaxBindCount,
-        Attr::MaxDeliveredUnackedMsgsPerFlow,
-        Attr::MaxMsgSize,
-        Attr::MaxMsgSpoolUsage,
-        Attr::MaxRedeliveryCount,
-        Attr::MaxTtl,
-        Attr::Owner,
-        Attr::PartitionCount,
-        Attr::Permission,
-        Attr::RejectMsgToSenderOnDiscardBehavior,
-        Attr::RespectTtlEnabled,
-    ];
+impl Choice for Attr {
+    ghost use Rattle.std.specs.Prelude.{refl};
+    ghost use Rattle.sp_config.specs.declared.attr.Attr.TheVariants as attr;
+    ghost use Rattle.sp_config.specs.Names.{all_attrs};
 
+    ghost word_of = { name_of };
+
+    ghost choices = { all_attrs };
+
+    fn word(self) -> &'static str {
+        self.name()
+    }
+
+    fn all() -> &'static [Attr] {
+        &[
+            Attr::AccessType,
+            Attr::DeadMsgQueue,
+            Attr::EgressEnabled,
+            Attr::IngressEnabled,
+            Attr::MaxBindCount,
+            Attr::MaxDeliveredUnackedMsgsPerFlow,
+            Attr::MaxMsgSize,
+            Attr::MaxMsgSpoolUsage,
+            Attr::MaxRedeliveryCount,
+            Attr::MaxTtl,
+            Attr::Owner,
+            Attr::PartitionCount,
+            Attr::Permission,
+            Attr::RejectMsgToSenderOnDiscardBehavior,
+            Attr::RespectTtlEnabled,
+        ]
+    }
+
+    ghost each_by_its_word = { elim [ attr.AccessType ↦ refl | attr.DeadMsgQueue ↦ refl | attr.EgressEnabled ↦ refl | attr.IngressEnabled ↦ refl | attr.MaxBindCount ↦ refl | attr.MaxDeliveredUnackedMsgsPerFlow ↦ refl | attr.MaxMsgSize ↦ refl | attr.MaxMsgSpoolUsage ↦ refl | attr.MaxRedeliveryCount ↦ refl | attr.MaxTtl ↦ refl | attr.Owner ↦ refl | attr.PartitionCount ↦ refl | attr.Permission ↦ refl | attr.RejectMsgToSenderOnDiscardBehavior ↦ refl | attr.RespectTtlEnabled ↦ refl ] };
+}
+
+impl Attr {
     /// The attribute's name.
     pub fn name(self) -> &'static str
-        ensures value { result.now ≡ name_of self }
-        ensures back { attr_named result.now ≡ Some self }
+        ensures { result.now ≡ name_of self }
     {
         match self {
             Attr::AccessType => "accessType",
@@ -85,13 +101,6 @@ impl Attr {
             Attr::RejectMsgToSenderOnDiscardBehavior => "rejectMsgToSenderOnDiscardBehavior",
             Attr::RespectTtlEnabled => "respectTtlEnabled",
         }
-    }
-
-    /// The attribute of a name. None exactly where no attribute has it.
-    pub fn named(name: &str) -> Option<Attr>
-        ensures { result ≡ attr_named name.now }
-    {
-        attr_among(&Attr::ALL, name).copied()
     }
 
     /// Its place in the order of names, from 1 to 15.
@@ -157,10 +166,4 @@ impl Attr {
             Attr::RespectTtlEnabled => Range::TrueOrFalse,
         }
     }
-}
-
-fn attr_among<'a>(attrs: &'a [Attr], name: &str) -> Option<&'a Attr>
-    ensures { option_copied result ≡ find (λ a. bytes_eq (name_of a) name.now) attrs.now }
-{
-    attrs.iter().find(|a| a.name() == name)
 }

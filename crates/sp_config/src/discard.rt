@@ -1,7 +1,7 @@
-ghost use Rattle.std.specs.Prelude.{◌≡◌, find, bytes_eq, slice_get, Some};
-ghost use Rattle.std.specs.Option.{option_copied};
-ghost use Rattle.sp_config.specs.Choices.{behavior_word, behavior_named, behaviors};
+ghost use Rattle.std.specs.Prelude.{◌≡◌};
 ghost use Rattle.sp_config.specs.Rejects.{rejects_for};
+
+use sp_base::choice::Choice;
 
 /// Why an endpoint can't spool a message.
 #[derive(Clone, Copy, Debug, PartialEq, Eq)]
@@ -26,18 +26,16 @@ pub enum DiscardBehavior {
     Never,
 }
 
-impl DiscardBehavior {
-    /// All behaviors, in the order in which they are numbered.
-    pub const ALL: [DiscardBehavior; 3] = [
-        DiscardBehavior::Always,
-        DiscardBehavior::WhenQueueEnabled,
-        DiscardBehavior::Never,
-    ];
+impl Choice for DiscardBehavior {
+    ghost use Rattle.std.specs.Prelude.{refl};
+    ghost use Rattle.sp_config.specs.declared.discard.DiscardBehavior.TheVariants.{Always, WhenQueueEnabled, Never};
+    ghost use Rattle.sp_config.specs.Choices.{behavior_word, behaviors};
 
-    /// The word for it.
-    pub fn word(self) -> &'static str
-        ensures { result.now ≡ behavior_word self }
-    {
+    ghost word_of = { behavior_word };
+
+    ghost choices = { behaviors };
+
+    fn word(self) -> &'static str {
         match self {
             DiscardBehavior::Always => "always",
             DiscardBehavior::WhenQueueEnabled => "when-queue-enabled",
@@ -45,31 +43,18 @@ impl DiscardBehavior {
         }
     }
 
-    /// The behavior that a word stands for. None exactly where it stands for none.
-    pub fn named(word: &str) -> Option<DiscardBehavior>
-        ensures { result ≡ behavior_named word.now }
-    {
-        behavior_among(&DiscardBehavior::ALL, word).copied()
+    fn all() -> &'static [DiscardBehavior] {
+        &[
+            DiscardBehavior::Always,
+            DiscardBehavior::WhenQueueEnabled,
+            DiscardBehavior::Never,
+        ]
     }
 
-    /// Its place among the three, from 0.
-    pub fn place(self) -> u8
-        ensures { slice_get behaviors result ≡ Some self }
-    {
-        match self {
-            DiscardBehavior::Always => 0,
-            DiscardBehavior::WhenQueueEnabled => 1,
-            DiscardBehavior::Never => 2,
-        }
-    }
+    ghost each_by_its_word = { elim [ Always ↦ refl | WhenQueueEnabled ↦ refl | Never ↦ refl ] };
+}
 
-    /// The behavior at a place among the three, from 0. None exactly from 3 on.
-    pub fn at(place: u8) -> Option<DiscardBehavior>
-        ensures { result ≡ slice_get behaviors place }
-    {
-        DiscardBehavior::ALL.get(place as usize).copied()
-    }
-
+impl DiscardBehavior {
     /// Whether it rejects the publish for this reason.
     pub fn rejects(self, why: Why) -> bool
         ensures { result ≡ rejects_for self why }
@@ -80,10 +65,4 @@ impl DiscardBehavior {
             DiscardBehavior::Never => false,
         }
     }
-}
-
-fn behavior_among<'a>(all: &'a [DiscardBehavior], word: &str) -> Option<&'a DiscardBehavior>
-    ensures { option_copied result ≡ find (λ b. bytes_eq (behavior_word b) word.now) all.now }
-{
-    all.iter().find(|b| b.word() == word)
 }

@@ -1,10 +1,9 @@
-ghost use Rattle.std.specs.Prelude.{◌≡◌, find, bytes_eq};
-ghost use Rattle.std.specs.Option.{option_copied};
-ghost use Rattle.sp_config.specs.Choices.{endpoint_kind_word, endpoint_kind_named};
+ghost use Rattle.std.specs.Prelude.{◌≡◌};
 ghost use Rattle.sp_config.specs.Settings.{has_partitions, is_allowed};
 
 use crate::attr::Attr;
 use crate::value::AttrValue;
+use sp_base::choice::Choice;
 
 /// What an endpoint is.
 #[derive(Clone, Copy, Debug, PartialEq, Eq)]
@@ -15,27 +14,30 @@ pub enum EndpointKind {
     TopicEndpoint,
 }
 
-impl EndpointKind {
-    /// Both kinds.
-    pub const ALL: [EndpointKind; 2] = [EndpointKind::Queue, EndpointKind::TopicEndpoint];
+impl Choice for EndpointKind {
+    ghost use Rattle.std.specs.Prelude.{refl};
+    ghost use Rattle.sp_config.specs.declared.kind.EndpointKind.TheVariants.{Queue, TopicEndpoint};
+    ghost use Rattle.sp_config.specs.Choices.{endpoint_kind_word, endpoint_kinds};
 
-    /// The word for it.
-    pub fn word(self) -> &'static str
-        ensures { result.now ≡ endpoint_kind_word self }
-    {
+    ghost word_of = { endpoint_kind_word };
+
+    ghost choices = { endpoint_kinds };
+
+    fn word(self) -> &'static str {
         match self {
             EndpointKind::Queue => "queue",
             EndpointKind::TopicEndpoint => "topic-endpoint",
         }
     }
 
-    /// The kind that a word stands for. None exactly where it stands for none.
-    pub fn named(word: &str) -> Option<EndpointKind>
-        ensures { result ≡ endpoint_kind_named word.now }
-    {
-        kind_among(&EndpointKind::ALL, word).copied()
+    fn all() -> &'static [EndpointKind] {
+        &[EndpointKind::Queue, EndpointKind::TopicEndpoint]
     }
 
+    ghost each_by_its_word = { elim [ Queue ↦ refl | TopicEndpoint ↦ refl ] };
+}
+
+impl EndpointKind {
     /// Whether an endpoint of the kind may have the value: it is in the attribute's range, and a topic
     /// endpoint has no partitions.
     pub fn allows(self, attr: Attr, value: &AttrValue) -> bool
@@ -46,12 +48,6 @@ impl EndpointKind {
             EndpointKind::TopicEndpoint => attr.range().has(value) && !has_partitions(attr, value),
         }
     }
-}
-
-fn kind_among<'a>(all: &'a [EndpointKind], word: &str) -> Option<&'a EndpointKind>
-    ensures { option_copied result ≡ find (λ k. bytes_eq (endpoint_kind_word k) word.now) all.now }
-{
-    all.iter().find(|k| k.word() == word)
 }
 
 fn has_partitions(attr: Attr, value: &AttrValue) -> bool

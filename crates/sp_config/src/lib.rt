@@ -7,7 +7,6 @@ pub mod attr;
 pub mod attributes;
 pub mod discard;
 pub mod kind;
-pub mod permission;
 pub mod range;
 pub mod setting;
 pub mod settings;

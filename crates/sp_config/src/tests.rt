@@ -3,13 +3,14 @@ use crate::attr::Attr;
 use crate::attributes::Attributes;
 use crate::discard::{DiscardBehavior, Why};
 use crate::kind::EndpointKind;
-use crate::permission::{permission_at, permission_named, permission_place, permission_word};
 use crate::range::Range;
 use crate::setting::Setting;
 use crate::settings::Settings;
 use crate::value::AttrValue;
+use sp_base::choice::{Choice, at_place, named};
 use sp_base::moment::Moment;
 use sp_base::name::Name;
+use sp_base::refusal::Permission;
 use std::alloc::Global;
 use std::test::Fail;
 
@@ -45,7 +46,7 @@ fn flags(attributes: &Attributes) -> [bool; 3] {
 fn choices(attributes: &Attributes) -> [&'static str; 3] {
     [
         attributes.access_type().word(),
-        permission_word(attributes.permission()),
+        attributes.permission().word(),
         attributes.reject_msg_to_sender_on_discard_behavior().word(),
     ]
 }
@@ -59,7 +60,7 @@ fn owner(attributes: &Attributes) -> &str {
 
 /// Whether the attribute has this name, the name leads back to it, and its values are in the range.
 fn is_named(attr: Attr, name: &str, range: Range) -> bool {
-    attr.name() == name && Attr::named(name) == Some(attr) && attr.range() == range
+    attr.name() == name && named(name) == Some(attr) && attr.range() == range
 }
 
 #[test]
@@ -104,7 +105,7 @@ fn fifteen_attributes_with_their_names_and_ranges(rt: HostRuntime) {
         assert!(rt; is_named(attr, name, range), "{name}");
     }
     for name in ["", "colour", "AccessType", "maxTtl "] {
-        assert!(rt; Attr::named(name).is_none(), "{name}");
+        assert!(rt; named::<Attr>(name).is_none(), "{name}");
     }
 }
 
@@ -150,29 +151,9 @@ fn has(range: Range, values: &[AttrValue; 5]) -> [bool; 5] {
     ]
 }
 
-fn is_access_type(place: u8, word: &str) -> bool {
-    match AccessType::at(place) {
-        Some(t) => t.word() == word && t.place() == place && AccessType::named(word) == Some(t),
-        None => false,
-    }
-}
-
-fn is_permission(place: u8, word: &str) -> bool {
-    match permission_at(place) {
-        Some(p) => {
-            permission_word(p) == word
-                && permission_place(p) == place
-                && permission_named(word) == Some(p)
-        }
-        None => false,
-    }
-}
-
-fn is_behavior(place: u8, word: &str) -> bool {
-    match DiscardBehavior::at(place) {
-        Some(b) => b.word() == word
-            && b.place() == place
-            && DiscardBehavior::named(word) == Some(b),
+fn is_choice<C: Choice + PartialEq>(place: u8, word: &str) -> bool {
+    match at_place::<C>(place as usize) {
+        Some(choice) => choice.word() == word && named(word) == Some(choice),
         None => false,
     }
 }
@@ -183,9 +164,9 @@ fn is_word(attr: Attr, place: u8, word: &str) -> bool {
         return false;
     }
     match attr {
-        Attr::AccessType => is_access_type(place, word),
-        Attr::Permission => is_permission(place, word),
-        _ => is_behavior(place, word),
+        Attr::AccessType => is_choice::<AccessType>(place, word),
+        Attr::Permission => is_choice::<Permission>(place, word),
+        _ => is_choice::<DiscardBehavior>(place, word),
     }
 }
 
@@ -218,8 +199,8 @@ fn words_lead_both_ways(rt: HostRuntime) {
 
 #[test]
 fn two_kinds_of_endpoints(rt: HostRuntime) {
-    let found = ["queue", "topic-endpoint", "topic"].map(|word| EndpointKind::named(word));
-    let [queue, topic_endpoint] = EndpointKind::ALL;
+    let found = ["queue", "topic-endpoint", "topic"].map(|word| named(word));
+    let [queue, topic_endpoint] = [EndpointKind::Queue, EndpointKind::TopicEndpoint];
     assert_eq!(rt; found, [Some(queue), Some(topic_endpoint), None]);
     assert_eq!(rt;
         [queue.word(), topic_endpoint.word()],
@@ -328,10 +309,9 @@ fn settings_change_theirs_and_leave_the_rest(rt: HostRuntime) -> Result<(), Fail
 #[test]
 fn a_topic_endpoint_has_no_partitions(rt: HostRuntime) -> Result<(), Fail> {
     let settings = two_settings(rt.alloc())?;
-    let [queue, topic_endpoint] = EndpointKind::ALL;
-    assert_eq!(rt; settings.bad_attribute(queue), None);
+    assert_eq!(rt; settings.bad_attribute(EndpointKind::Queue), None);
     assert_eq!(rt;
-        settings.bad_attribute(topic_endpoint),
+        settings.bad_attribute(EndpointKind::TopicEndpoint),
         Some(Attr::PartitionCount)
     );
     Ok(())
@@ -385,8 +365,11 @@ fn rejected(behavior: DiscardBehavior) -> [bool; 3] {
 
 #[test]
 fn which_reasons_reject_a_publish(rt: HostRuntime) {
-    let [always, when_queue_enabled, never] = DiscardBehavior::ALL;
-    assert_eq!(rt; rejected(always), [true, true, true]);
-    assert_eq!(rt; rejected(when_queue_enabled), [false, true, true]);
-    assert_eq!(rt; rejected(never), [false, false, false]);
+    for (behavior, reasons) in [
+        (DiscardBehavior::Always, [true, true, true]),
+        (DiscardBehavior::WhenQueueEnabled, [false, true, true]),
+        (DiscardBehavior::Never, [false, false, false]),
+    ] {
+        assert_eq!(rt; rejected(behavior), reasons);
+    }
 }

@@ -8,7 +8,7 @@ use Rattle.std.proofs.lemmas.Bool.{eqb-true, or_parts}
 use Rattle.sp_copies.specs.declared.made.MadeCopy.{MadeCopy}
 use Rattle.sp_copies.specs.History.{is_made}
 
-count-cons : (p : MadeCopy → Bool) (c : MadeCopy) (cs : List MadeCopy) → count_by p (c ∷ cs) ≡ cond (p c) 1 0 + count_by p cs
+pub count-cons : (p : MadeCopy → Bool) (c : MadeCopy) (cs : List MadeCopy) → count_by p (c ∷ cs) ≡ cond (p c) 1 0 + count_by p cs
 count-cons p c cs = sum_by-cons {X = MadeCopy} (λ x. cond (p x) 1 0) c cs
 
 pub at-most-one : (b : Bool) → cond b 1 0 ≤ 1

@@ -1,3 +1,4 @@
+pub mod Changes
 pub mod ClosedSound
 pub mod Counting
 pub mod Examples
@@ -8,4 +9,7 @@ pub mod Marks
 pub mod Places
 pub mod ReturnedSound
 pub mod Room
+pub mod Searches
+pub mod Shares
+pub mod Tallied
 pub mod Totals

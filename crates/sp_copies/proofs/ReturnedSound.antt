@@ -18,8 +18,10 @@ given_back_sound H copy s = record {
   below = s.below;
   closed_made = s.closed_made;
   closed_once = s.closed_once;
-  held_spooled = All-filter {X = HeldCopy} (λ h. not (h.copy == copy)) (λ h. IsTrue (is_spooled H h.copy)) H.held s.held_spooled;
-  held_once = λ k. le_trans (count-filter {X = HeldCopy} (λ h. h.copy == k) (λ h. not (h.copy == copy)) H.held) (s.held_once k);
+  held_spooled = All-filter {X = HeldCopy} (λ h. not (h.copy == copy))
+      (λ h. IsTrue (is_spooled H h.copy)) H.held s.held_spooled;
+  held_once = λ k. le_trans (count-filter {X = HeldCopy} (λ h. h.copy == k) (λ h. not (h.copy == copy)) H.held)
+      (s.held_once k);
   counted = s.counted;
   used = s.used;
 }

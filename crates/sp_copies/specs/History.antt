@@ -1,10 +1,12 @@
 -- The history of all copies: what was ever made and closed, what flows hold, and how often each copy was handed out.
-use Rattle.std.specs.Prelude.{◌==◌, ℕ, ◌+◌, ◌-◌, ◌^◌, min, Bool, false, length, not, ◌&&◌, List, [], ◌∷◌, ◌++◌, filter, find, map, sum_by, Option, Some, None, option_map, option_and_then, unwrap_or, nat_le, nat_lt, if◌then◌else◌}
+use Rattle.std.specs.Prelude.{◌==◌, ℕ, ◌+◌, ◌-◌, ◌^◌, min, Bool, false, length, not, ◌&&◌, List, [], ◌∷◌, ◌++◌, filter, find, fold, map, sum_by, Option, Some, None, option_map, option_and_then, unwrap_or, nat_le, nat_lt, if◌then◌else◌}
 use Rattle.std.specs.List.{list_any}
 use Rattle.sp_copies.specs.declared.made.NewCopy.{NewCopy}
 use Rattle.sp_copies.specs.declared.made.MadeCopy.{MadeCopy}
+use Rattle.sp_copies.specs.declared.made.Share.{Share}
 use Rattle.sp_copies.specs.declared.held.HeldCopy.{HeldCopy}
 use Rattle.sp_copies.specs.declared.held.CopyAttempts.{CopyAttempts}
+use Rattle.sp_copies.specs.declared.closed.Cause.TheVariants.{NotSpooled}
 use Rattle.sp_copies.specs.declared.closed.ClosedCopy.{ClosedCopy}
 use Rattle.sp_copies.specs.declared.closed.Closing.{Closing}
 use Rattle.sp_copies.specs.declared.closed.Closing.TheVariants as closings
@@ -90,12 +92,14 @@ has_come (Some deadline) moment = nat_le deadline moment
 
 -- the spooled copies of an endpoint that no flow holds and whose deadline hasn't come, in order of number
 abbrev pub waiting_copies : History → ℕ → ℕ → List MadeCopy
-waiting_copies H endpoint moment = filter (λ c. not (is_held H.held c.number) && not (has_come c.deadline moment)) (open_copies H endpoint)
+waiting_copies H endpoint moment =
+    filter (λ c. not (is_held H.held c.number) && not (has_come c.deadline moment)) (open_copies H endpoint)
 
 -- the flow that holds the least held copy of an endpoint's partition, where one is held
 abbrev pub holder_in : History → ℕ → ℕ → Option ℕ
 holder_in H endpoint partition =
-    option_and_then (λ c. holder_of H.held c.number) (find (λ c. (c.endpoint == endpoint) && (c.partition == partition) && is_held H.held c.number) H.made)
+    option_and_then (λ c. holder_of H.held c.number)
+    (find (λ c. (c.endpoint == endpoint) && (c.partition == partition) && is_held H.held c.number) H.made)
 
 -- the least spooled copy of an endpoint above a number
 abbrev pub next_spooled : History → ℕ → ℕ → Option ℕ
@@ -123,7 +127,8 @@ told_closing after (Some how) = if nat_le 1000000 after then fates.Earlier else 
 
 -- what has become of a copy
 abbrev pub fate_of : History → ℕ → Fate
-fate_of H copy = if is_made H.made copy then told_closing (closed_after H.closed copy) (closing_of H.closed copy) else fates.Never
+fate_of H copy =
+    if is_made H.made copy then told_closing (closed_after H.closed copy) (closing_of H.closed copy) else fates.Never
 
 -- a new copy under its number
 abbrev pub numbered : ℕ → NewCopy → MadeCopy
@@ -174,3 +179,13 @@ with_held copy flow H = record H {
 -- a copy is given back
 abbrev pub with_given_back : ℕ → History → History
 with_given_back copy H = record H { held = let_go copy H.held }
+
+-- a copy is made, and closed at once where it isn't spooled
+abbrev pub with_share : ℕ → Share → History → History
+with_share moment s H =
+    if s.is_spooled then with_made s.copy H
+    else with_closed H.next (closings.Discarded NotSpooled) moment (with_made s.copy H)
+
+-- one share after another
+abbrev pub all_shared : ℕ → List Share → History → History
+all_shared moment shares H = fold (λ h s. with_share moment s h) H shares

@@ -3,12 +3,15 @@ use Rattle.std.specs.Prelude.{ℕ, ◌+◌, ◌≤◌, ◌&&◌, not, count_by, 
 use Rattle.sp_copies.specs.declared.copies.Copies.TheInside.{Inside}
 use Rattle.sp_copies.specs.Counts.{spooled_count}
 use Rattle.sp_copies.specs.History.{History, is_closed, is_held}
-use Rattle.sp_copies.specs.Kept.{Kept}
-use Rattle.sp_copies.specs.Sound.{IsSoundHistory}
+use Rattle.sp_copies.specs.Kept.{Kept, Records}
 
 abbrev pub kept_in : Inside → Kept
 kept_in c = record {
-  history = record { made = c.made.items; closed = c.closed.items; held = c.held.items; attempts = c.attempts.items; next = c.next };
+  made = c.made.items;
+  closed = c.closed.items;
+  held = c.held.items;
+  attempts = c.attempts.items;
+  next = c.next;
   spare = c.spare;
 }
 
@@ -20,11 +23,12 @@ spooled H = spooled_count H None
 abbrev pub free : History → ℕ
 free H = count_by (λ c. not (is_closed H.closed c.number) && not (is_held H.held c.number)) H.made
 
--- the history is sound, and there is room: to make `spare` copies, to close each of them and each spooled one, and to
--- hand out each of them and each free one
+-- there is a sound history for which the rows stand, and there is room: to make `spare` copies, to close each of them
+-- and each spooled one, and to hand out each of them and each free one
 pub record IsStore (c : Inside) : Type 0 where
-  pub sound : IsSoundHistory (kept_in c).history
+  pub history : History
+  pub stands : Records (kept_in c) history
   pub to_make : c.spare ≤ c.made.room
   pub to_count : c.spare ≤ c.attempts.room
-  pub to_close : spooled (kept_in c).history + c.spare ≤ c.closed.room
-  pub to_hold : free (kept_in c).history + c.spare ≤ c.held.room
+  pub to_close : spooled history + c.spare ≤ c.closed.room
+  pub to_hold : free history + c.spare ≤ c.held.room

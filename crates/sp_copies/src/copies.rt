@@ -1,15 +1,14 @@
 ghost use Rattle.std.specs.Prelude.{◌≡◌, ◌↔◌, ◌≤◌, ◌<◌, ◌+◌, IfOk, OnOk};
 ghost use Rattle.sp_copies.specs.History.{History, empty_history};
+ghost use Rattle.sp_copies.specs.Inside.{spooled};
 ghost use Rattle.sp_copies.specs.Kept.{Records};
 
 mod change;
 mod count;
 mod read;
 
-use crate::attempt_rows::AttemptRows;
 use crate::closed::ClosedCopy;
-use crate::held_rows::HeldRows;
-use crate::look;
+use crate::held::{CopyAttempts, HeldCopy};
 use crate::made::MadeCopy;
 use sp_base::rows::Rows;
 use std::alloc::{AllocError, Global};
@@ -21,8 +20,8 @@ use std::marker::Model;
 pub struct Copies {
     made: Rows<MadeCopy>,
     closed: Rows<ClosedCopy>,
-    held: HeldRows,
-    attempts: AttemptRows,
+    held: Rows<HeldCopy>,
+    attempts: Rows<CopyAttempts>,
     next: u64,
     spare: usize,
 }
@@ -47,8 +46,8 @@ impl Copies {
         Copies {
             made: Rows::new(alloc),
             closed: Rows::new(alloc),
-            held: HeldRows::new(alloc),
-            attempts: AttemptRows::new(alloc),
+            held: Rows::new(alloc),
+            attempts: Rows::new(alloc),
             next,
             spare: 0,
         }
@@ -61,8 +60,7 @@ impl Copies {
         ensures room { OnOk result (more ≤ self.new.spare) }
         ensures kept { self.old.spare ≤ self.new.spare }
     {
-        let spooled = look::count_spooled(self.made.as_slice(), self.closed.as_slice(), None);
-        let later = rows_for(spooled, more)?;
+        let later = rows_for(self.spooled(), more)?;
         self.made.reserve(more)?;
         self.attempts.reserve(more)?;
         self.closed.reserve(later)?;
@@ -73,9 +71,17 @@ impl Copies {
 
     /// How many more copies there is room for.
     pub fn spare(&self) -> usize
-        ensures { result ≡ self.now.spare }
+        ensures room { result ≡ self.now.spare }
+        ensures stands { (H : History) × Records self.now H }
     {
         self.spare
+    }
+
+    // How many copies are spooled: those that were made, less those that were closed.
+    fn spooled(&self) -> usize
+        ensures { (H : History) → Records self.now H → spooled H ≤ result }
+    {
+        self.made.len() - self.closed.len()
     }
 }
 

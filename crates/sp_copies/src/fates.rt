@@ -1,5 +1,5 @@
 // Look-ups of single copies and their fates over the rows of all copies and closings.
-ghost use Rattle.std.specs.Prelude.{◌≡◌, ◌==◌, ◌&&◌, not, filter, find, position, nat_lt, option_map, if◌then◌else◌};
+ghost use Rattle.std.specs.Prelude.{◌≡◌, ◌==◌, ◌&&◌, not, filter, find, position, nat_lt, option_map, if◌then◌else◌, IfOk};
 ghost use Rattle.sp_copies.specs.History.{copy_of, is_made, is_closed, is_open_in, closing_of, closed_after, closed_as, told_closing};
 ghost use Rattle.sp_copies.specs.declared.closed.Fate.TheVariants.{Never};
 
@@ -7,6 +7,7 @@ use crate::closed::{ClosedCopy, Closing, Fate};
 use crate::look::{closing_of, has_closing};
 use crate::made::MadeCopy;
 use sp_base::number::{CopyNo, EndpointNo};
+use std::alloc::{AllocError, Global};
 
 /// A closing is told until this many others have come after it.
 const CLOSINGS_TOLD: usize = 1_000_000;
@@ -35,13 +36,35 @@ pub fn next_spooled(
     endpoint: EndpointNo,
     after: CopyNo,
 ) -> Option<CopyNo>
-    ensures { result ≡ option_map (λ c. c.number) (find (λ c. nat_lt after c.number) (filter (is_open_in closed.now endpoint) made.now)) }
+    ensures { result ≡ option_map (λ c. c.number) (find (λ c. nat_lt after c.number && is_open_in closed.now endpoint c) made.now) }
 {
-    let next = made
-        .iter()
-        .filter(|c| c.endpoint == endpoint && !has_closing(closed, c.number))
-        .find(|c| after.value() < c.number.value())?;
+    let next = made.iter().find(|c| is_next(closed, endpoint, after, c))?;
     Some(next.number)
+}
+
+// What is asked of the number costs least, and of the closings most.
+fn is_next(closed: &[ClosedCopy], endpoint: EndpointNo, after: CopyNo, copy: &MadeCopy) -> bool
+    ensures { result ≡ (nat_lt after copy.now.number && is_open_in closed.now endpoint copy.now) }
+{
+    if copy.number.value() <= after.value() || copy.endpoint != endpoint {
+        return false;
+    }
+    !has_closing(closed, copy.number)
+}
+
+/// The spooled copies of an endpoint, in order of number.
+pub fn spooled_in(
+    alloc: Global,
+    made: &[MadeCopy],
+    closed: &[ClosedCopy],
+    endpoint: EndpointNo,
+) -> Result<Vec<MadeCopy>, AllocError>
+    ensures { IfOk result (λ copies. copies.items ≡ filter (is_open_in closed.now endpoint) made.now) }
+{
+    made.iter()
+        .filter(|c| c.endpoint == endpoint && !has_closing(closed, c.number))
+        .copied()
+        .collect(alloc)
 }
 
 pub fn fate_of(made: &[MadeCopy], closed: &[ClosedCopy], copy: CopyNo) -> Fate

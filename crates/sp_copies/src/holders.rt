@@ -1,5 +1,5 @@
 // Look-ups over the rows of held copies and of attempts.
-ghost use Rattle.std.specs.Prelude.{◌≡◌, ◌==◌, ◌&&◌, not, filter, find, map, option_and_then, IfOk};
+ghost use Rattle.std.specs.Prelude.{◌≡◌, ◌==◌, ◌&&◌, not, filter, find, map, count_by, option_and_then, IfOk};
 ghost use Rattle.sp_copies.specs.History.{is_open_in, is_held, is_held_by, holder_of, attempts_of, has_come};
 
 use crate::closed::ClosedCopy;
@@ -71,6 +71,13 @@ pub fn attempts_of(attempts: &[CopyAttempts], copy: CopyNo) -> u64
         Some(found) => found.count,
         None => 0,
     }
+}
+
+/// How many rows are of the flow.
+pub fn count_held_by(held: &[HeldCopy], flow: FlowNo) -> usize
+    ensures { result ≡ count_by (λ h. h.flow == flow) held.now }
+{
+    held.iter().filter(|h| h.flow == flow).count()
 }
 
 /// The copies that a flow holds, in order of number.

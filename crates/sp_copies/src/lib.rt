@@ -1,12 +1,11 @@
 //! Every copy of a message that was ever made, with its holder and its fate.
 #![tactic(auto)]
 
-mod attempt_rows;
 pub mod closed;
 pub mod copies;
+mod counts;
 mod fates;
 pub mod held;
-mod held_rows;
 mod holders;
 mod look;
 pub mod made;

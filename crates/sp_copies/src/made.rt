@@ -36,3 +36,11 @@ pub struct MadeCopy {
     pub deadline: Option<u64>,
     pub partition: u64,
 }
+
+/// A copy of a message that is published.
+#[derive(Clone, Copy, Debug, PartialEq, Eq)]
+pub struct Share {
+    pub copy: NewCopy,
+    /// Where it is false, the copy is closed at once as not spooled.
+    pub is_spooled: bool,
+}

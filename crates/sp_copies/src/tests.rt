@@ -1,6 +1,8 @@
+ghost use Rattle.std.specs.Prelude.{◌≡◌};
+
 use crate::closed::{Cause, CauseCount, Closing, Fate};
 use crate::copies::Copies;
-use crate::made::{NewCopy, Origin};
+use crate::made::{NewCopy, Origin, Share};
 use sp_base::moment::Moment;
 use sp_base::number::{CopyNo, EndpointNo, FlowNo, MessageNo};
 use std::alloc::Global;
@@ -19,7 +21,7 @@ fn make(
     assert!(rt; copies.used(endpoint) + 64 <= 1 << 40);
     copies.make(NewCopy {
         endpoint,
-        message: MessageNo::new(1),
+        message: MessageNo::of(1),
         size: 64,
         origin: Origin::Published,
         deadline,
@@ -35,6 +37,7 @@ enum Step {
 }
 
 fn take(rt: &impl Abort, copies: &mut Copies, copy: CopyNo, step: Step) {
+    assert!(rt; copies.spare() < 100);
     match step {
         Step::Hold(flow) => {
             assert!(rt; copies.is_free(copy));
@@ -67,13 +70,13 @@ fn tell(copies: &Copies, endpoint: EndpointNo, copy: CopyNo) -> Shown {
         attempts: copies.attempts(copy),
         holder: copies.holder(endpoint, 0),
         used: copies.used(endpoint),
-        first: copies.next_spooled(endpoint, CopyNo::new(0)),
+        first: copies.next_spooled(endpoint, CopyNo::of(0)),
     }
 }
 
 #[test]
 fn a_copy_from_its_making_to_its_closing(rt: HostRuntime) -> Result<(), Fail> {
-    let queue = EndpointNo::new(1);
+    let queue = EndpointNo::of(1);
     let mut copies = Copies::new(rt.alloc(), 1);
     copies.reserve(2)?;
     let first = make(&rt, &mut copies, queue, None);
@@ -85,8 +88,8 @@ fn a_copy_from_its_making_to_its_closing(rt: HostRuntime) -> Result<(), Fail> {
         used: 128,
         first: Some(first),
     };
-    let seven = FlowNo::new(7);
-    let eight = FlowNo::new(8);
+    let seven = FlowNo::of(7);
+    let eight = FlowNo::of(8);
     for (step, after) in [
         (
             Step::Hold(seven),
@@ -131,19 +134,25 @@ fn a_copy_from_its_making_to_its_closing(rt: HostRuntime) -> Result<(), Fail> {
 #[test]
 fn what_a_flow_holds(rt: HostRuntime) -> Result<(), Fail> {
     let alloc = rt.alloc();
+    let queue = EndpointNo::of(1);
     let mut copies = Copies::new(alloc, 1);
-    copies.reserve(1)?;
-    let copy = make(&rt, &mut copies, EndpointNo::new(1), None);
-    take(&rt, &mut copies, copy, Step::Hold(FlowNo::new(1)));
-    let held = copies.held_by(alloc, FlowNo::new(1))?;
+    copies.reserve(2)?;
+    let copy = make(&rt, &mut copies, queue, None);
+    let other = make(&rt, &mut copies, queue, None);
+    take(&rt, &mut copies, copy, Step::Hold(FlowNo::of(1)));
+    take(&rt, &mut copies, other, Step::Hold(FlowNo::of(2)));
+    let held = copies.held_by(alloc, FlowNo::of(1))?;
     assert_eq!(rt; held.as_slice(), [copy].as_slice());
+    assert_eq!(rt; copies.count_held_by(FlowNo::of(1)), 1);
+    let spooled = copies.spooled_in(alloc, queue)?;
+    assert_eq!(rt; spooled.len(), 2);
     Ok(())
 }
 
 #[test]
 fn a_copy_waits_until_its_deadline(rt: HostRuntime) -> Result<(), Fail> {
     let alloc = rt.alloc();
-    let queue = EndpointNo::new(1);
+    let queue = EndpointNo::of(1);
     let mut copies = Copies::new(alloc, 1);
     copies.reserve(2)?;
     let lasting = make(&rt, &mut copies, queue, None);
@@ -168,18 +177,36 @@ fn waiting(
     Ok(numbers)
 }
 
+fn unspooled(endpoint: EndpointNo) -> Share
+    ensures { result.copy.size ≡ 64 }
+{
+    Share {
+        copy: NewCopy {
+            endpoint,
+            message: MessageNo::of(1),
+            size: 64,
+            origin: Origin::Published,
+            deadline: None,
+            partition: 0,
+        },
+        is_spooled: false,
+    }
+}
+
 #[test]
-fn why_copies_were_discarded(rt: HostRuntime) -> Result<(), Fail> {
+fn a_copy_that_is_not_spooled_is_closed_at_once(rt: HostRuntime) -> Result<(), Fail> {
     let alloc = rt.alloc();
-    let queue = EndpointNo::new(1);
+    let queue = EndpointNo::of(1);
     let mut copies = Copies::new(alloc, 1);
     copies.reserve(1)?;
-    let copy = make(&rt, &mut copies, queue, None);
-    let expired = Step::Close(Closing::Discarded(Cause::Expired));
-    take(&rt, &mut copies, copy, expired);
+    copies.publish(&[unspooled(queue)], Moment::START);
+    assert_eq!(rt;
+        copies.fate(CopyNo::of(1)),
+        Fate::Discarded(Cause::NotSpooled)
+    );
     let causes = copies.count_causes(alloc, Some(queue))?;
     let counted = CauseCount {
-        cause: Cause::Expired,
+        cause: Cause::NotSpooled,
         count: 1,
     };
     assert_eq!(rt; causes.as_slice(), [counted].as_slice());

@@ -1,10 +1,7 @@
+pub mod Standing
+pub mod Deciding
 pub mod Carried
-pub mod Enumerated
-pub mod Found
-pub mod Handed
-pub mod Placed
 pub mod Prepared
-pub mod PreparedEndpoints
-pub mod PreparedSpread
-pub mod Replaced
 pub mod Spread
+pub mod Delivered
+pub mod Plans

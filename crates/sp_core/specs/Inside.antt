@@ -1,18 +1,16 @@
 -- What contracts see of a core's fields.
-use Rattle.std.specs.Prelude.{map}
-use Rattle.sp_core.specs.declared.state.Core.TheInside.{Inside}
-use Rattle.sp_core.specs.Rows.{endpoint_row, flow_row, message_row, next_row}
 use Rattle.sp_core.specs.State.{CoreState}
+use Rattle.sp_core.specs.declared.state.Core.TheInside.{Inside}
 
 abbrev pub core_state : Inside → CoreState
 core_state c = record {
-  endpoints = map endpoint_row c.endpoints.items;
-  endpoint_room = c.endpoints.room;
-  messages = map message_row c.messages.items;
-  message_room = c.messages.room;
+  endpoints = c.endpoints;
+  messages = c.messages;
   copies = c.copies;
-  flows = map flow_row c.flows.items;
-  flow_room = c.flows.room;
-  next = next_row c.next;
+  flows = c.flows;
+  next_endpoint = c.next_endpoint;
+  next_message = c.next_message;
+  next_replay = c.next_replay;
+  next_unit = c.next_unit;
   clock = c.clock;
 }

@@ -1,8 +1,8 @@
-pub mod Decided
-pub mod Errors
-pub mod Inside
-pub mod Plan
-pub mod Rows
-pub mod Stands
+-- What has to be believed: which ledgers a core stands for, and what preparing and applying a unit mean.
 pub mod State
-pub mod Targets
+pub mod Stands
+pub mod Room
+pub mod Decided
+pub mod Asked
+-- How contracts see the fields.
+pub mod Inside

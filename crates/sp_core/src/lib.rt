@@ -2,15 +2,8 @@
 //! carries it out, and it answers queries.
 #![tactic(auto)]
 
-mod endpoint_rows;
-pub mod errors;
-mod flow_rows;
-mod look;
-pub mod plan;
+pub mod numbers;
 pub mod ready;
-mod refusals;
-pub mod rows;
 pub mod state;
-pub mod targets;
 #[cfg(test)]
 mod tests;

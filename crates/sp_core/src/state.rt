@@ -1,68 +1,72 @@
-ghost use Rattle.std.specs.Prelude.{◌≡◌, ◌≤◌, ◌+◌, ◌-◌, ◌^◌, ◌∷◌, [], IfOk, IfErr, IfSome, is_some, length, max};
-ghost use Rattle.std.specs.Option.{option_copied, option_map};
-ghost use Rattle.sp_core.specs.Decided.{IsOf, IsPrepared, IsRefused, ReadyState};
-ghost use Rattle.sp_core.specs.Errors.{OnRefused};
-ghost use Rattle.sp_core.specs.Plan.{unit_of};
-ghost use Rattle.sp_core.specs.Rows.{endpoint_row, flow_row, empty_at};
-ghost use Rattle.sp_core.specs.Stands.{Stands, IsRoomier};
-ghost use Rattle.sp_ledger.specs.Checks.{first_refusal, is_spent};
-ghost use Rattle.sp_ledger.specs.Ledger.{Ledger, flow_of, named, queue_named, used_of};
-ghost use Rattle.sp_ledger.specs.Outcome.{refused};
-ghost use Rattle.sp_ledger.specs.Step.{unit_step};
+ghost use Rattle.std.specs.Prelude.{◌≡◌, ◌≤◌, ◌+◌, ◌-◌, ◌^◌, ◌∷◌, [], IfOk, length, max, true};
+ghost use Rattle.std.specs.Option.{option_copied};
+ghost use Rattle.sp_access.specs.Flows.{flow_count, flow_of};
+ghost use Rattle.sp_base.specs.Name.{is_caller};
+ghost use Rattle.sp_core.specs.Decided.{Prepares, of_first};
+ghost use Rattle.sp_core.specs.Stands.{Stands, empty_at};
+ghost use Rattle.sp_endpoint.specs.Endpoints.{named, queue_named};
+ghost use Rattle.sp_event.specs.declared.request.Event.{Event};
+ghost use Rattle.sp_ledger.specs.Ledger.{Ledger, used_of};
+ghost use Rattle.sp_ledger.specs.Step.{first_refusal, is_spent};
 
-use crate::endpoint_rows::EndpointRows;
-use crate::errors::PrepareError;
-use crate::flow_rows::FlowRows;
-use crate::look::{find_endpoint, find_flow, find_queue};
+use crate::numbers::Numbers;
 use crate::ready::Ready;
-use crate::refusals::SPENT;
-use crate::rows::{Endpoint, Flow, Next, Numbers, Published};
+use sp_access::flow::Flow;
+use sp_access::flows::Flows;
+use sp_base::declined::{Declined, EventRefusal};
 use sp_base::failure::Memory;
 use sp_base::moment::Moment;
 use sp_base::name::Name;
-use sp_base::number::FlowNo;
+use sp_base::number::{EndpointNo, FlowNo, MessageNo, ReplayNo, UnitNo};
 use sp_base::refusal::{Kind, Refusal};
 use sp_base::rows::Rows;
 use sp_copies::copies::Copies;
-use sp_event::answer::Reply;
+use sp_endpoint::endpoint::Endpoint;
+use sp_endpoint::endpoints::Endpoints;
 use sp_event::request::Event;
-use std::alloc::{AllocError, Global};
+use sp_plan::asking::SPENT;
+use sp_plan::published::Published;
+use std::alloc::Global;
 use std::marker::Model;
 
 mod apply;
-mod bind;
-mod change;
-mod deprovision;
-mod provision;
+mod decide;
+mod on_endpoints;
+mod on_flows;
 mod publish;
-mod pull;
 mod query;
-mod settle;
-mod subscribe;
-mod unbind;
+mod room;
+mod tables;
 
 /// The spool's state.
 #[derive(Drop)]
 pub struct Core {
-    endpoints: EndpointRows,
+    endpoints: Endpoints,
     messages: Rows<Published>,
     copies: Copies,
-    flows: FlowRows,
-    next: Next,
+    flows: Flows,
+    next_endpoint: EndpointNo,
+    next_message: MessageNo,
+    next_replay: ReplayNo,
+    next_unit: UnitNo,
     clock: Moment,
 }
 
 impl Model for Core {
-    ghost use Rattle.sp_core.specs.State.{CoreState, ledger_of};
-    ghost use Rattle.sp_ledger.specs.Sound.{IsSound};
+    ghost use Rattle.sp_core.specs.State.{CoreState};
+    ghost use Rattle.sp_core.specs.Stands.{IsCore};
+    ghost use Rattle.sp_selector.specs.contracts.selector.Selector.{the_row as selector_row};
+    ghost use Rattle.std.specs.Coded.{codes};
 
     ghost Value = { CoreState };
+
+    ghost coded = { Prim.hlevel (codes, selector_row.coded) };
 
     ghost use Rattle.sp_core.specs.Inside.{core_state};
 
     ghost view = { core_state };
 
-    ghost invariant = { λ c. IsSound (ledger_of (core_state c)) };
+    ghost invariant = { λ c. IsCore (core_state c) };
 }
 
 impl Core {
@@ -73,17 +77,14 @@ impl Core {
         ensures { IfOk result (λ core. Stands core (empty_at start)) }
     {
         Ok(Core {
-            endpoints: EndpointRows::new(alloc),
+            endpoints: Endpoints::new(alloc),
             messages: Rows::new(alloc),
             copies: Copies::new(alloc, start.copy),
-            flows: FlowRows::new(alloc),
-            next: Next {
-                endpoint: start.endpoint,
-                message: start.message,
-                flow: start.flow,
-                replay: start.replay,
-                unit: start.unit,
-            },
+            flows: Flows::new(alloc, FlowNo::of(start.flow)),
+            next_endpoint: EndpointNo::of(start.endpoint),
+            next_message: MessageNo::of(start.message),
+            next_replay: ReplayNo::of(start.replay),
+            next_unit: UnitNo::of(start.unit),
             clock: Moment::START,
         })
     }
@@ -98,60 +99,14 @@ impl Core {
         now: Moment,
         from: &Name,
         unit: &[Event],
-    ) -> Result<Ready, PrepareError>
-        requires { length unit.now ≡ 1 }
-        ensures same { IsRoomier self.old self.new }
-        ensures still { (r : ReadyState) → IsPrepared self.old r → IsPrepared self.new r }
-        ensures ready { IfOk result (λ r. IsPrepared self.new r) }
-        ensures request { IfOk result (λ r. (r.moment ≡ now) × (r.caller ≡ from.now) × (unit_of r.plan ≡ unit.now)) }
-        ensures refused { IfErr result (λ e. OnRefused e (λ refusal.
-            (L : Ledger) → Stands self.old L → unit_step now from.now unit.now L ≡ refused refusal)) }
+    ) -> Result<Ready, Declined<EventRefusal>>
+        requires one { length unit.now ≡ 1 }
+        requires caller { is_caller from.now ≡ true }
+        ensures { (event : Event) → unit.now ≡ event ∷ [] → Prepares self.old self.new now from.now event result }
     {
-        self.prepare_event(alloc, now, from, &unit[0])
-    }
-
-    fn prepare_event(
-        &mut self,
-        alloc: Global,
-        now: Moment,
-        from: &Name,
-        event: &Event,
-    ) -> Result<Ready, PrepareError>
-        ensures same { IsRoomier self.old self.new }
-        ensures ready { IfOk result (IsPrepared self.new) }
-        ensures request { IfOk result (IsOf now from.now event.now) }
-        ensures refused { IfErr result (λ e. OnRefused e (IsRefused self.old now from.now event.now)) }
-    {
-        match event {
-            Event::Provision {
-                endpoint,
-                kind,
-                attributes,
-            } => self.prepare_provision(alloc, now, from, endpoint, *kind, attributes),
-            Event::Deprovision { endpoint } => self.prepare_deprovision(alloc, now, from, endpoint),
-            Event::Change {
-                endpoint,
-                attributes,
-            } => self.prepare_change(alloc, now, from, endpoint, attributes),
-            Event::Subscribe {
-                endpoint,
-                subscription,
-            } => self.prepare_subscribe(alloc, now, from, endpoint, subscription),
-            Event::Unsubscribe {
-                endpoint,
-                subscription,
-            } => self.prepare_unsubscribe(alloc, now, from, endpoint, subscription),
-            Event::Publish { message } => self.prepare_publish(alloc, now, from, message),
-            Event::Bind { endpoint, topic } => {
-                self.prepare_bind(alloc, now, from, endpoint, topic)
-            }
-            Event::Unbind { flow } => self.prepare_unbind(alloc, now, from, *flow),
-            Event::Pull { flow, count } => self.prepare_pull(alloc, now, from, *flow, *count),
-            Event::Settle {
-                flow,
-                copy,
-                outcome,
-            } => self.prepare_settle(alloc, now, from, *flow, *copy, *outcome),
+        match self.decide(alloc, now, from, &unit[0]) {
+            Ok(plan) => Ok(self.make_ready(alloc, now, plan)?),
+            Err(declined) => Err(of_first(declined)),
         }
     }
 
@@ -159,7 +114,7 @@ impl Core {
     pub fn units(&self) -> u64
         ensures { (L : Ledger) → Stands self.now L → result ≡ L.next.unit - 1 }
     {
-        self.next.unit.saturating_sub(1)
+        self.next_unit.value().saturating_sub(1)
     }
 
     /// The bytes that an endpoint's spooled copies use. None exactly where no endpoint has the
@@ -171,48 +126,52 @@ impl Core {
         Some(self.copies.used(found.number))
     }
 
-    fn find_bound(&self, caller: &Name, flow: FlowNo) -> Option<&Flow>
-        ensures { (L : Ledger) → Stands self.now L → option_map flow_row (option_copied result) ≡ flow_of L.flows caller.now flow }
+    fn find(&self, name: &Name) -> Option<&Endpoint>
+        ensures { (L : Ledger) → Stands self.now L → option_copied result ≡ named name.now L.endpoints }
     {
-        find_flow(self.flows.as_slice(), caller, flow)
+        self.endpoints.find(name)
     }
 
-    // The later of the ledger's moment and another.
+    fn find_queue(&self, name: &Name) -> Option<&Endpoint>
+        ensures { (L : Ledger) → Stands self.now L → option_copied result ≡ queue_named name.now L.endpoints }
+    {
+        self.endpoints.find_queue(name)
+    }
+
+    fn find_flow(&self, caller: &Name, flow: FlowNo) -> Option<&Flow>
+        ensures { (L : Ledger) → Stands self.now L → option_copied result ≡ flow_of L.flows caller.now flow }
+    {
+        self.flows.find(caller, flow)
+    }
+
+    fn flow_count(&self, endpoint: EndpointNo) -> u64
+        ensures { (L : Ledger) → Stands self.now L → result ≡ flow_count L.flows endpoint }
+    {
+        self.flows.count(endpoint) as u64
+    }
+
     fn later(&self, moment: Moment) -> Moment
         ensures { (L : Ledger) → Stands self.now L → result ≡ max L.now moment }
     {
         self.clock.max(moment)
     }
 
-    // The endpoint of a name.
-    fn find(&self, name: &Name) -> Option<&Endpoint>
-        ensures found { (L : Ledger) → Stands self.now L → option_map endpoint_row (option_copied result) ≡ named name.now L.endpoints }
-        ensures called { IfSome result (λ e. e.now.name ≡ name.now) }
-    {
-        find_endpoint(self.endpoints.as_slice(), name)
-    }
-
-    // The queue of a name.
-    fn find_queue(&self, name: &Name) -> Option<&Endpoint>
-        ensures found { (L : Ledger) → Stands self.now L → option_map endpoint_row (option_copied result) ≡ queue_named name.now L.endpoints }
-        ensures called { IfSome result (λ e. e.now.name ≡ name.now) }
-    {
-        find_queue(self.endpoints.as_slice(), name)
-    }
-
-    // Whether the numbers of units are drawn, the last rule that an event may break.
     fn unit_refusal(&self) -> Option<Refusal>
         ensures { (L : Ledger) → Stands self.now L → result ≡ first_refusal (is_spent L.next.unit Kind.Unit ∷ []) }
     {
-        if self.next_unit() >= SPENT {
+        if self.next_unit.value() >= SPENT {
             return Some(Refusal::IdsSpent { kind: Kind::Unit });
         }
         None
     }
+}
 
-    fn next_unit(&self) -> u64
-        ensures { (L : Ledger) → Stands self.now L → result ≡ L.next.unit }
-    {
-        self.next.unit
+// A unit's first event is refused, or memory is wanting.
+fn of_first(declined: Declined<Refusal>) -> Declined<EventRefusal>
+    ensures { result ≡ of_first declined }
+{
+    match declined {
+        Declined::Refused(refusal) => Declined::Refused(EventRefusal { index: 0, refusal }),
+        Declined::Memory => Declined::Memory,
     }
 }

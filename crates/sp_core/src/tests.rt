@@ -1,7 +1,11 @@
-use crate::errors::PrepareError;
-use crate::rows::Numbers;
+ghost use Rattle.sp_base.specs.Name.{is_caller};
+ghost use Rattle.std.specs.Prelude.{◌≡◌, IfSome, true};
+
+use crate::numbers::Numbers;
 use crate::state::Core;
 use sp_base::bytes::Bytes;
+use sp_base::declined::{Declined, EventRefusal};
+use sp_base::failure::Memory;
 use sp_base::moment::Moment;
 use sp_base::name::Name;
 use sp_base::number::{CopyNo, FlowNo};
@@ -12,23 +16,16 @@ use sp_config::setting::Setting;
 use sp_config::settings::Settings;
 use sp_config::value::AttrValue;
 use sp_copies::closed::Fate;
-use sp_event::answer::{Delivery, Reply};
-use sp_event::request::{Event, Outcome, Query};
-use sp_message::message::{Dest, Message};
+use sp_event::answer::Reply;
+use sp_event::request::{Event, Outcome, PullCount, Query};
+use sp_message::message::{Dest, Message, TimeToLive};
 use sp_message::payload::Payload;
 use sp_message::property::Properties;
 use sp_topic::subscription::Subscription;
 use std::alloc::Global;
 use std::slice;
 
-mod limits;
-mod topics;
-
-fn name(alloc: Global, text: &[u8]) -> Option<Name> {
-    Name::read(alloc, text).ok()
-}
-
-// An event of ann at the first moment. Those on an endpoint are on q1.
+// An event of ann on q1, at the first moment.
 #[derive(Clone, Copy)]
 enum Step {
     Provision,
@@ -38,339 +35,188 @@ enum Step {
     Unsubscribe,
     Publish,
     Bind,
-    Unbind(u64),
-    Pull(u64),
-    Settle(u64, u64),
+    Unbind,
+    Pull,
+    Settle,
 }
 
-fn q1(alloc: Global) -> Option<Name> {
-    name(alloc, b"q1")
+fn name(alloc: Global, text: &[u8]) -> Option<Name> {
+    Name::read(alloc, text).ok()
 }
 
-// A queue of this name comes.
-fn provision(alloc: Global, text: &[u8]) -> Option<Event> {
-    Some(Event::Provision {
-        endpoint: name(alloc, text)?,
-        kind: EndpointKind::Queue,
-        attributes: Settings::none(alloc),
-    })
+fn subscription(alloc: Global) -> Option<Subscription> {
+    Subscription::read(alloc, b"a/>").ok()
 }
 
-fn deprovision(alloc: Global) -> Option<Event> {
-    Some(Event::Deprovision {
-        endpoint: q1(alloc)?,
-    })
-}
-
-fn change(alloc: Global) -> Option<Event> {
+fn settings(alloc: Global) -> Option<Settings> {
     let setting = Setting {
         attr: Attr::MaxBindCount,
         value: AttrValue::Whole(1),
     };
-    Some(Event::Change {
-        endpoint: q1(alloc)?,
-        attributes: Settings::from_vec(vec![in alloc; setting].ok()?)?,
+    Settings::from_vec(vec![in alloc; setting].ok()?)
+}
+
+fn message(alloc: Global) -> Option<Message> {
+    Some(Message {
+        dest: Dest::Queue(name(alloc, b"q1")?),
+        payload: Payload::from_bytes(Bytes::from_vec(Vec::new(alloc))),
+        ttl: TimeToLive::of(0),
+        eligible: false,
+        properties: Properties::none(alloc),
     })
 }
 
-fn subscribe(alloc: Global, text: &[u8]) -> Option<Event> {
-    Some(Event::Subscribe {
-        endpoint: q1(alloc)?,
-        subscription: Subscription::read(alloc, text).ok()?,
-    })
-}
-
-fn unsubscribe(alloc: Global, text: &[u8]) -> Option<Event> {
-    Some(Event::Unsubscribe {
-        endpoint: q1(alloc)?,
-        subscription: Subscription::read(alloc, text).ok()?,
-    })
-}
-
-// An empty message for q1.
-fn publish(alloc: Global) -> Option<Event> {
-    let payload = Payload::from_bytes(Bytes::from_vec(Vec::new(alloc)));
-    Some(Event::Publish {
-        message: Message {
-            dest: Dest::Queue(q1(alloc)?),
-            payload,
-            ttl: 0,
-            eligible: false,
-            properties: Properties::none(alloc),
+fn on_endpoint(alloc: Global, step: Step) -> Option<Event> {
+    let endpoint = name(alloc, b"q1")?;
+    Some(match step {
+        Step::Provision => Event::Provision {
+            endpoint,
+            kind: EndpointKind::Queue,
+            attributes: Settings::none(alloc),
         },
+        Step::Change => Event::Change {
+            endpoint,
+            attributes: settings(alloc)?,
+        },
+        Step::Subscribe => Event::Subscribe {
+            endpoint,
+            subscription: subscription(alloc)?,
+        },
+        Step::Unsubscribe => Event::Unsubscribe {
+            endpoint,
+            subscription: subscription(alloc)?,
+        },
+        Step::Bind => Event::Bind {
+            endpoint,
+            topic: None,
+        },
+        _ => Event::Deprovision { endpoint },
     })
 }
 
-fn bind(alloc: Global) -> Option<Event> {
-    Some(Event::Bind {
-        endpoint: q1(alloc)?,
-        topic: None,
-    })
-}
-
-fn pull(flow: u64) -> Event {
-    Event::Pull {
-        flow: FlowNo::new(flow),
-        count: 1,
-    }
-}
-
-fn unbind(flow: u64) -> Event {
-    Event::Unbind {
-        flow: FlowNo::new(flow),
-    }
-}
-
-fn settle(flow: u64, copy: u64) -> Event {
-    Event::Settle {
-        flow: FlowNo::new(flow),
-        copy: CopyNo::new(copy),
-        outcome: Outcome::Accepted,
-    }
-}
-
+// Those of a flow are of flow 1, and of copy 1.
 fn event(alloc: Global, step: Step) -> Option<Event> {
+    let flow = FlowNo::of(1);
     match step {
-        Step::Provision => provision(alloc, b"q1"),
-        Step::Deprovision => deprovision(alloc),
-        Step::Change => change(alloc),
-        Step::Subscribe => subscribe(alloc, b"a/>"),
-        Step::Unsubscribe => unsubscribe(alloc, b"a/>"),
-        Step::Publish => publish(alloc),
-        Step::Bind => bind(alloc),
-        Step::Unbind(flow) => Some(unbind(flow)),
-        Step::Pull(flow) => Some(pull(flow)),
-        Step::Settle(flow, copy) => Some(settle(flow, copy)),
+        Step::Publish => Some(Event::Publish {
+            message: message(alloc)?,
+        }),
+        Step::Unbind => Some(Event::Unbind { flow }),
+        Step::Pull => Some(Event::Pull {
+            flow,
+            count: PullCount::of(64),
+        }),
+        Step::Settle => Some(Event::Settle {
+            flow,
+            copy: CopyNo::of(1),
+            outcome: Outcome::Accepted,
+        }),
+        _ => on_endpoint(alloc, step),
     }
 }
 
-// The replies to one event of ann at the first moment. None where it is refused.
-fn replies(alloc: Global, core: &mut Core, event: &Event) -> Option<Vec<Reply>> {
+// The numbers that a reply tells, two at most.
+fn figures(reply: &Reply) -> (u64, u64) {
+    match reply {
+        Reply::Provision { number, .. } => (number.value(), 0),
+        Reply::Publish { message, copies } => (message.value(), copies.len() as u64),
+        Reply::Bind {
+            flow,
+            discarded,
+            ..
+        } => (flow.value(), *discarded),
+        Reply::Unbind { flow, returned, .. } => (flow.value(), *returned),
+        Reply::Pull { flow, deliveries } => (flow.value(), deliveries.len() as u64),
+        Reply::Settle { copy, .. } => (copy.value(), 0),
+        _ => (0, 0),
+    }
+}
+
+fn one(told: &[Reply]) -> Option<(u64, u64)> {
+    match told {
+        [reply] => Some(figures(reply)),
+        _ => None,
+    }
+}
+
+fn ann(alloc: Global) -> Option<Name>
+    ensures { IfSome result (λ n. is_caller n ≡ true) }
+{
     let ann = name(alloc, b"ann")?;
-    match core.prepare(alloc, Moment::START, &ann, slice::from_ref(event)) {
-        Ok(ready) => Some(core.apply(ready)),
+    if !ann.is_caller() {
+        return None;
+    }
+    Some(ann)
+}
+
+// What the one reply to a step tells, or the kind of number that is spent.
+fn take(alloc: Global, core: &mut Core, step: Step) -> Option<Result<(u64, u64), Kind>> {
+    let ann = ann(alloc)?;
+    let event = event(alloc, step)?;
+    match core.prepare(alloc, Moment::START, &ann, slice::from_ref(&event)) {
+        Ok(ready) => Some(Ok(one(core.apply(ready).as_slice())?)),
+        Err(
+            Declined::Refused(
+                EventRefusal {
+                    index: 0,
+                    refusal: Refusal::IdsSpent { kind },
+                },
+            ),
+        ) => Some(Err(kind)),
         Err(_) => None,
     }
 }
 
-// The refusal of one event of ann at the first moment.
-fn refusal(alloc: Global, core: &mut Core, event: &Event) -> Option<Refusal> {
-    let ann = name(alloc, b"ann")?;
-    match core.prepare(alloc, Moment::START, &ann, slice::from_ref(event)) {
-        Err(PrepareError::Refused { index: 0, refusal }) => Some(refusal),
-        _ => None,
-    }
-}
-
-fn is_done(alloc: Global, core: &mut Core, event: &Event) -> bool {
-    match replies(alloc, core, event) {
-        Some(told) => told.len() == 1,
-        None => false,
-    }
-}
-
-fn take_step(alloc: Global, core: &mut Core, step: Step) -> bool {
-    match event(alloc, step) {
-        Some(event) => is_done(alloc, core, &event),
-        None => false,
-    }
-}
-
-fn take_steps(alloc: Global, core: &mut Core, steps: &[Step]) -> bool {
-    for step in steps {
-        if !take_step(alloc, core, *step) {
-            return false;
-        }
-    }
-    true
-}
-
-fn first_core(alloc: Global) -> Option<Core> {
-    Core::new(alloc, Numbers::FIRST).ok()
-}
-
-// The core after these steps. None where one is refused.
-fn core_after(alloc: Global, steps: &[Step]) -> Option<Core> {
-    let mut core = first_core(alloc)?;
-    if take_steps(alloc, &mut core, steps) {
-        Some(core)
-    } else {
-        None
-    }
-}
-
-fn units_after(alloc: Global, steps: &[Step]) -> Option<u64> {
-    let core = core_after(alloc, steps)?;
-    Some(core.units())
-}
-
-#[test]
-fn each_event_is_carried_out(rt: HostRuntime) {
-    let steps = [
-        Step::Provision,
-        Step::Change,
-        Step::Subscribe,
-        Step::Unsubscribe,
-        Step::Publish,
-        Step::Bind,
-        Step::Pull(1),
-        Step::Settle(1, 1),
-        Step::Unbind(1),
-        Step::Deprovision,
-    ];
-    assert_eq!(rt; units_after(rt.alloc(), &steps), Some(10));
-}
-
-// The one copy that a pull delivers, and its attempt.
-fn delivered(told: &[Reply]) -> Option<(u64, u64)> {
-    match told {
-        [Reply::Pull { deliveries, .. }] => one_delivery(deliveries.as_slice()),
-        _ => None,
-    }
-}
-
-fn one_delivery(deliveries: &[Delivery]) -> Option<(u64, u64)> {
-    match deliveries {
-        [delivery] => Some((delivery.copy.value(), delivery.attempt)),
-        _ => None,
-    }
-}
-
-fn pulled(alloc: Global, core: &mut Core, flow: u64) -> Option<(u64, u64)> {
-    let told = replies(alloc, core, &pull(flow))?;
-    delivered(told.as_slice())
-}
-
-fn pulled_after(alloc: Global, steps: &[Step], flow: u64) -> Option<(u64, u64)> {
-    let mut core = core_after(alloc, steps)?;
-    pulled(alloc, &mut core, flow)
-}
-
-#[test]
-fn a_copy_that_is_held_is_given_back_and_pulled_again(rt: HostRuntime) {
-    let steps = [
-        Step::Provision,
-        Step::Publish,
-        Step::Bind,
-        Step::Bind,
-        Step::Pull(1),
-        Step::Unbind(1),
-    ];
-    assert_eq!(rt; pulled_after(rt.alloc(), &steps[..4], 1), Some((1, 1)));
-    assert_eq!(rt; pulled_after(rt.alloc(), &steps[..5], 2), None);
-    assert_eq!(rt; pulled_after(rt.alloc(), &steps, 2), Some((1, 2)));
-}
-
-// What a query of ann is answered at the first moment.
-fn answer(alloc: Global, core: &Core, query: &Query) -> Option<Reply> {
-    let ann = name(alloc, b"ann")?;
-    core.query(alloc, Moment::START, &ann, query).ok()
-}
-
-fn told_fate(reply: &Reply) -> Option<Fate> {
-    match reply {
+fn fate(alloc: Global, core: &Core) -> Option<Fate> {
+    let ann = ann(alloc)?;
+    let query = Query::Copy {
+        copy: CopyNo::of(1),
+    };
+    let reply = core.query(alloc, Moment::START, &ann, &query).ok()?;
+    match &reply {
         Reply::Copy { fate, .. } => Some(*fate),
         _ => None,
     }
 }
 
-// What has become of copy 1.
-fn fate(alloc: Global, core: &Core) -> Option<Fate> {
-    let query = Query::Copy {
-        copy: CopyNo::new(1),
-    };
-    told_fate(&answer(alloc, core, &query)?)
-}
-
-fn fate_after(alloc: Global, steps: &[Step]) -> Option<Fate> {
-    let core = core_after(alloc, steps)?;
-    fate(alloc, &core)
-}
-
-#[test]
-fn a_copy_that_is_accepted_is_pulled_no_more(rt: HostRuntime) {
-    let steps = [
-        Step::Provision,
-        Step::Publish,
-        Step::Bind,
-        Step::Pull(1),
-        Step::Settle(1, 1),
-    ];
-    assert_eq!(rt; pulled_after(rt.alloc(), &steps, 1), None);
-    assert_eq!(rt; fate_after(rt.alloc(), &steps), Some(Fate::Accepted));
-}
-
 fn used(alloc: Global, core: &Core) -> Option<u64> {
-    let q1 = q1(alloc)?;
-    core.used(&q1)
-}
-
-fn used_after(alloc: Global, steps: &[Step]) -> Option<u64> {
-    let core = core_after(alloc, steps)?;
-    used(alloc, &core)
-}
-
-fn told_counts(reply: &Reply) -> Option<(u64, u64, u64)> {
-    match reply {
-        Reply::Tally(tally) => Some((tally.made, tally.spooled, tally.used)),
-        _ => None,
-    }
-}
-
-// How many copies were made in q1, how many of them are spooled, and the bytes that these use.
-fn counts(alloc: Global, core: &Core) -> Option<(u64, u64, u64)> {
-    let query = Query::Tally {
-        endpoint: Some(q1(alloc)?),
-    };
-    told_counts(&answer(alloc, core, &query)?)
-}
-
-fn counts_after(alloc: Global, steps: &[Step]) -> Option<(u64, u64, u64)> {
-    let core = core_after(alloc, steps)?;
-    counts(alloc, &core)
+    core.used(&name(alloc, b"q1")?)
 }
 
 #[test]
-fn a_published_copy_is_used_and_counted(rt: HostRuntime) {
-    let steps = [Step::Provision, Step::Publish];
-    assert_eq!(rt; used_after(rt.alloc(), &[]), None);
-    assert_eq!(rt; used_after(rt.alloc(), &steps), Some(66));
-    assert_eq!(rt; counts_after(rt.alloc(), &steps), Some((1, 1, 66)));
+fn ten_events_are_carried_out(rt: HostRuntime) -> Result<(), Memory> {
+    let alloc = rt.alloc();
+    let mut core = Core::new(alloc, Numbers::FIRST)?;
+    assert_eq!(rt; take(alloc, &mut core, Step::Provision), Some(Ok((1, 0))));
+    assert_eq!(rt; take(alloc, &mut core, Step::Change), Some(Ok((0, 0))));
+    assert_eq!(rt; take(alloc, &mut core, Step::Subscribe), Some(Ok((0, 0))));
+    assert_eq!(rt; take(alloc, &mut core, Step::Unsubscribe), Some(Ok((0, 0))));
+    assert_eq!(rt; take(alloc, &mut core, Step::Publish), Some(Ok((1, 1))));
+    assert_eq!(rt; used(alloc, &core), Some(66));
+    assert_eq!(rt; take(alloc, &mut core, Step::Bind), Some(Ok((1, 0))));
+    assert_eq!(rt; take(alloc, &mut core, Step::Pull), Some(Ok((1, 1))));
+    assert_eq!(rt; take(alloc, &mut core, Step::Pull), Some(Ok((1, 0))));
+    assert_eq!(rt; take(alloc, &mut core, Step::Settle), Some(Ok((1, 0))));
+    assert_eq!(rt; fate(alloc, &core), Some(Fate::Accepted));
+    assert_eq!(rt; take(alloc, &mut core, Step::Unbind), Some(Ok((1, 0))));
+    assert_eq!(rt; take(alloc, &mut core, Step::Deprovision), Some(Ok((0, 0))));
+    assert_eq!(rt; core.units(), 10);
+    Ok(())
 }
 
-fn spent(refusal: &Refusal) -> Option<Kind> {
-    match refusal {
-        Refusal::IdsSpent { kind } => Some(*kind),
-        _ => None,
-    }
-}
-
-// The kind of the numbers that are spent when a message comes.
-fn spent_at_publish(alloc: Global, core: &mut Core) -> Option<Kind> {
-    match event(alloc, Step::Publish) {
-        Some(event) => spent(&refusal(alloc, core, &event)?),
-        None => None,
-    }
-}
-
-fn core_without_messages(alloc: Global) -> Option<Core> {
+#[test]
+fn spent_numbers_refuse(rt: HostRuntime) -> Result<(), Memory> {
+    let alloc = rt.alloc();
     let start = Numbers {
         message: 1 << 62,
         ..Numbers::FIRST
     };
-    Core::new(alloc, start).ok()
-}
-
-fn spent_kind(alloc: Global) -> Option<Kind> {
-    let mut core = core_without_messages(alloc)?;
-    if take_step(alloc, &mut core, Step::Provision) {
-        spent_at_publish(alloc, &mut core)
-    } else {
-        None
-    }
-}
-
-#[test]
-fn spent_message_numbers_refuse_a_publish(rt: HostRuntime) {
-    assert_eq!(rt; spent_kind(rt.alloc()), Some(Kind::Message));
+    let mut core = Core::new(alloc, start)?;
+    assert_eq!(rt; take(alloc, &mut core, Step::Provision), Some(Ok((1, 0))));
+    assert_eq!(rt;
+        take(alloc, &mut core, Step::Publish),
+        Some(Err(Kind::Message))
+    );
+    assert_eq!(rt; core.units(), 1);
+    Ok(())
 }

@@ -1,9 +1,16 @@
 use sp_base::name::Name;
-use sp_base::number::{CopyNo, FlowNo};
+use sp_base::number::{CopyNo, FlowNo, Ranged};
 use sp_config::kind::EndpointKind;
 use sp_config::settings::Settings;
 use sp_message::message::Message;
 use sp_topic::subscription::Subscription;
+
+/// What a number counts.
+#[derive(Clone, Copy, Debug, PartialEq, Eq)]
+pub struct OfPulls;
+
+/// For how many copies at most a pull asks, from 1 to 64.
+pub type PullCount = Ranged<OfPulls, 1, 64>;
 
 /// How a flow settles a copy that it holds.
 #[derive(Clone, Copy, Debug, PartialEq, Eq)]
@@ -55,10 +62,10 @@ pub enum Event {
     Unbind {
         flow: FlowNo,
     },
-    /// A flow of the caller is handed out at most `count` copies, from 1 to 64.
+    /// A flow of the caller is handed out at most `count` copies.
     Pull {
         flow: FlowNo,
-        count: u64,
+        count: PullCount,
     },
     /// A flow of the caller settles a copy that it holds.
     Settle {

@@ -1,4 +1,9 @@
-pub mod AttributeLemmas
-pub mod Keys
-pub mod PayloadLemmas
+pub mod AnswersBack
+pub mod CopiesBack
+pub mod MembersBack
+pub mod ReadBack
+pub mod RefusalsBack
+pub mod SettingsBack
+pub mod SettingsPicked
+pub mod TextBack
 pub mod Whole

@@ -1,12 +1,19 @@
 -- The line of an answer.
 use Rattle.std.specs.Prelude.{ℕ, List, [], ◌∷◌, ◌++◌, true, codes}
-use Rattle.serde_json.specs.Data.{Data, boolean, string, object, member, no_members}
+use Rattle.serde_json.specs.Data.{Data, boolean, string, object, member, no_members, put}
 use Rattle.serde_json.specs.Written.{compact_text}
 use Rattle.sp_base.specs.declared.refusal.Refusal.{Refusal}
+use Rattle.sp_base.specs.Refusal.{number_of, rule_name}
 use Rattle.sp_event.specs.declared.answer.Answered.{Answered}
 use Rattle.sp_event.specs.declared.answer.Answered.TheVariants.{Gave, Refused, Memory, Disk, Full}
-use Rattle.sp_flowline.specs.Refusals.{whole, refusal_data}
+use Rattle.sp_json.specs.Members.{whole}
+use Rattle.sp_json.specs.Refusals.{shown_members}
 use Rattle.sp_flowline.specs.Replies.{reply_data}
+
+-- a refusal: the number and the name of its rule, and the values that it shows
+abbrev pub refusal_data : Refusal → Data
+refusal_data refusal =
+    object (put (codes "no") (whole (number_of refusal)) (put (codes "rule") (string (rule_name refusal)) (shown_members refusal)))
 
 abbrev pub refused_data : Refusal → ℕ → Data
 refused_data refusal unit = object (member (codes "refused") (refusal_data refusal) (member (codes "unit") (whole unit) no_members))

@@ -1,17 +1,26 @@
 -- What the fields of a request ask for. None where one has a value outside its form.
-use Rattle.std.specs.Prelude.{Option, Result, option_map, codes}
+use Rattle.std.specs.Prelude.{◌^◌, Option, Result, Ok, option_map, codes}
 use Rattle.serde_json.specs.Data.{Data}
 use Rattle.sp_base.specs.declared.refusal.Refusal.{Refusal}
 use Rattle.sp_event.specs.declared.request.Ask.{Ask}
+use Rattle.sp_event.specs.declared.request.Ask.TheVariants.{Do, Look}
+use Rattle.sp_event.specs.declared.request.Event.{Event}
 use Rattle.sp_event.specs.declared.request.Query.{Query}
 use Rattle.sp_event.specs.declared.request.Query.TheVariants as queries
 use Rattle.sp_flowline.specs.declared.op.Op.{Op}
 use Rattle.sp_flowline.specs.declared.op.Op.TheVariants.{Provision, Deprovision, Change, Subscribe, Unsubscribe, Publish, Bind, Unbind, Pull, Settle, Tally, Copy}
 use Rattle.sp_flowline.specs.EndpointEvents.{provision_in, deprovision_in, change_in, subscribe_in, unsubscribe_in}
-use Rattle.sp_flowline.specs.Fields.{optional_name_at, number_at}
+use Rattle.sp_json.specs.Fields.{optional_name_at, ranged_at}
 use Rattle.sp_flowline.specs.FlowEvents.{bind_in, unbind_in, pull_in, settle_in}
-use Rattle.sp_flowline.specs.Parts.{formed, done, looked}
+use Rattle.sp_json.specs.Parts.{formed, and_then}
 use Rattle.sp_flowline.specs.Publishes.{publish_in}
+
+-- an event or a query as what is asked
+abbrev pub done : Result Event Refusal → Result Ask Refusal
+done event = and_then event (λ event. Ok (Do event))
+
+abbrev pub looked : Result Query Refusal → Result Ask Refusal
+looked query = and_then query (λ query. Ok (Look query))
 
 -- the counts of an endpoint, or of all
 abbrev pub tally_in : Data → Option Query
@@ -19,7 +28,7 @@ tally_in d = option_map queries.Tally (optional_name_at (codes "endpoint") d)
 
 -- what has become of a copy
 abbrev pub copy_in : Data → Option Query
-copy_in d = option_map queries.Copy (number_at (codes "copy") d)
+copy_in d = option_map queries.Copy (ranged_at 0 (2 ^ 62) (codes "copy") d)
 
 -- what the fields of an operation ask for
 abbrev pub ask_in : Op → Data → Result Ask Refusal

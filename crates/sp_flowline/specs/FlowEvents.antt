@@ -1,14 +1,16 @@
 -- What the fields of a request ask of flows. None where one has a value outside its form.
-use Rattle.std.specs.Prelude.{ℕ, List, Option, Some, None, Result, Ok, Err, option_map, option_and_then, codes, if◌then◌else◌}
+use Rattle.std.specs.Prelude.{ℕ, ◌^◌, List, Option, Some, None, Result, Ok, Err, option_map, option_and_then, codes, bytes_eq, if◌then◌else◌}
 use Rattle.serde_json.specs.Data.{Data}
 use Rattle.sp_base.specs.declared.refusal.Refusal.{Refusal}
 use Rattle.sp_base.specs.declared.refusal.Refusal.TheVariants.{BadSubscription}
 use Rattle.sp_event.specs.declared.request.Event.{Event}
 use Rattle.sp_event.specs.declared.request.Event.TheVariants.{Bind, Unbind, Pull, Settle}
 use Rattle.sp_topic.specs.Subscription.{is_exception}
-use Rattle.sp_flowline.specs.EndpointEvents.{subscription_at}
-use Rattle.sp_flowline.specs.Fields.{has_key, name_at, number_at, count_at, outcome_at}
-use Rattle.sp_flowline.specs.Parts.{formed, and_then}
+use Rattle.sp_event.specs.declared.request.Outcome.{Outcome}
+use Rattle.sp_event.specs.declared.request.Outcome.TheVariants.{Accepted}
+use Rattle.sp_json.specs.Fields.{has_key, text_at, name_at, ranged_at, ranged_or}
+use Rattle.sp_json.specs.Parts.{formed, and_then}
+use Rattle.sp_json.specs.Subscriptions.{subscription_at}
 
 -- a subscription, unless it is an exception
 abbrev pub plain_of : List ℕ → Result (List ℕ) Refusal
@@ -28,15 +30,23 @@ bind_in d =
 
 -- the end of a flow
 abbrev pub unbind_in : Data → Option Event
-unbind_in d = option_map Unbind (number_at (codes "flow") d)
+unbind_in d = option_map Unbind (ranged_at 0 (2 ^ 62) (codes "flow") d)
 
--- copies for a flow, at most so many
+-- copies for a flow, at most so many: one, where it isn't said
 abbrev pub pull_in : Data → Option Event
-pull_in d = option_and_then (λ flow. option_map (Pull flow) (count_at (codes "count") d)) (number_at (codes "flow") d)
+pull_in d =
+    option_and_then (λ flow. option_map (Pull flow) (ranged_or 1 64 1 (codes "count") d)) (ranged_at 0 (2 ^ 62) (codes "flow") d)
+
+abbrev pub outcome_named : List ℕ → Option Outcome
+outcome_named word = if bytes_eq word (codes "accepted") then Some Accepted else None
+
+-- the outcome that a field names
+abbrev pub outcome_at : List ℕ → Data → Option Outcome
+outcome_at key d = option_and_then outcome_named (text_at key d)
 
 -- a copy that a flow settles
 abbrev pub settle_in : Data → Option Event
 settle_in d =
     option_and_then (λ flow.
     option_and_then (λ copy.
-    option_map (Settle flow copy) (outcome_at (codes "outcome") d)) (number_at (codes "copy") d)) (number_at (codes "flow") d)
+    option_map (Settle flow copy) (outcome_at (codes "outcome") d)) (ranged_at 0 (2 ^ 62) (codes "copy") d)) (ranged_at 0 (2 ^ 62) (codes "flow") d)

@@ -1,6 +1,6 @@
 -- The operations of the line protocol, and the fields of each.
-use Rattle.std.specs.Prelude.{ℕ, List, [], ◌∷◌, ◌++◌, Bool, ◌||◌, Option, find, bytes_eq, codes}
-use Rattle.std.specs.List.{list_any}
+use Rattle.std.specs.Prelude.{ℕ, List, [], ◌∷◌, codes}
+use Rattle.sp_json.specs.Names.{FieldsOf}
 use Rattle.sp_flowline.specs.declared.op.Op.{Op}
 use Rattle.sp_flowline.specs.declared.op.Op.TheVariants.{Provision, Deprovision, Change, Subscribe, Unsubscribe, Publish, Bind, Unbind, Pull, Settle, Tally, Copy}
 
@@ -24,34 +24,30 @@ op_word Settle = codes "settle"
 op_word Tally = codes "tally"
 op_word Copy = codes "copy"
 
--- the operation of a word
-abbrev pub op_named : List ℕ → Option Op
-op_named word = find (λ op. bytes_eq (op_word op) word) all_ops
-
--- the fields that a request of an operation has to have; a publish has to have one of two
-abbrev pub required_fields : Op → List (List ℕ)
-required_fields Provision = codes "endpoint" ∷ []
-required_fields Deprovision = codes "endpoint" ∷ []
-required_fields Change = codes "endpoint" ∷ codes "attributes" ∷ []
-required_fields Subscribe = codes "endpoint" ∷ codes "subscription" ∷ []
-required_fields Unsubscribe = codes "endpoint" ∷ codes "subscription" ∷ []
-required_fields Publish = []
-required_fields Bind = codes "endpoint" ∷ []
-required_fields Unbind = codes "flow" ∷ []
-required_fields Pull = codes "flow" ∷ []
-required_fields Settle = codes "flow" ∷ codes "copy" ∷ codes "outcome" ∷ []
-required_fields Tally = []
-required_fields Copy = codes "copy" ∷ []
-
--- the fields that it may have besides
-abbrev pub optional_fields : Op → List (List ℕ)
-optional_fields Provision = codes "kind" ∷ codes "attributes" ∷ []
-optional_fields Publish = codes "topic" ∷ codes "queue" ∷ codes "mode" ∷ codes "payload" ∷ codes "payload64" ∷ []
-optional_fields Bind = codes "topic" ∷ []
-optional_fields Pull = codes "count" ∷ []
-optional_fields Tally = codes "endpoint" ∷ []
-optional_fields op = []
-
--- whether an operation has a field of this name
-abbrev pub has_field : Op → List ℕ → Bool
-has_field op key = bytes_eq key (codes "op") || list_any (bytes_eq key) (required_fields op ++ optional_fields op)
+-- the fields of a request of an operation: those that have to be there, those of which one has to be there, and
+-- those that may be
+abbrev pub fields_of : Op → FieldsOf
+fields_of Provision = record {
+  required = codes "op" ∷ codes "endpoint" ∷ [];
+  one_of = [];
+  optional = codes "kind" ∷ codes "attributes" ∷ [];
+}
+fields_of Deprovision = record { required = codes "op" ∷ codes "endpoint" ∷ []; one_of = []; optional = [] }
+fields_of Change =
+    record { required = codes "op" ∷ codes "endpoint" ∷ codes "attributes" ∷ []; one_of = []; optional = [] }
+fields_of Subscribe =
+    record { required = codes "op" ∷ codes "endpoint" ∷ codes "subscription" ∷ []; one_of = []; optional = [] }
+fields_of Unsubscribe =
+    record { required = codes "op" ∷ codes "endpoint" ∷ codes "subscription" ∷ []; one_of = []; optional = [] }
+fields_of Publish = record {
+  required = codes "op" ∷ [];
+  one_of = codes "topic" ∷ codes "queue" ∷ [];
+  optional = codes "mode" ∷ codes "payload" ∷ codes "payload64" ∷ [];
+}
+fields_of Bind = record { required = codes "op" ∷ codes "endpoint" ∷ []; one_of = []; optional = codes "topic" ∷ [] }
+fields_of Unbind = record { required = codes "op" ∷ codes "flow" ∷ []; one_of = []; optional = [] }
+fields_of Pull = record { required = codes "op" ∷ codes "flow" ∷ []; one_of = []; optional = codes "count" ∷ [] }
+fields_of Settle =
+    record { required = codes "op" ∷ codes "flow" ∷ codes "copy" ∷ codes "outcome" ∷ []; one_of = []; optional = [] }
+fields_of Tally = record { required = codes "op" ∷ []; one_of = []; optional = codes "endpoint" ∷ [] }
+fields_of Copy = record { required = codes "op" ∷ codes "copy" ∷ []; one_of = []; optional = [] }

@@ -1,5 +1,5 @@
 -- What a publish asks for.
-use Rattle.std.specs.Prelude.{ℕ, List, [], ◌∷◌, false, Option, Some, Result, Ok, Err, option_map, option_and_then, find, bytes_eq, codes, if◌then◌else◌}
+use Rattle.std.specs.Prelude.{ℕ, List, [], ◌∷◌, false, Option, Result, Ok, Err, option_map, codes, if◌then◌else◌}
 use Rattle.serde_json.specs.Data.{Data}
 use Rattle.sp_base.specs.declared.refusal.Refusal.{Refusal}
 use Rattle.sp_base.specs.declared.refusal.Refusal.TheVariants.{DirectMode, BadTopic}
@@ -11,9 +11,9 @@ use Rattle.sp_event.specs.declared.request.Event.{Event}
 use Rattle.sp_event.specs.declared.request.Event.TheVariants as events
 use Rattle.sp_flowline.specs.declared.mode.Mode.{Mode}
 use Rattle.sp_flowline.specs.declared.mode.Mode.TheVariants.{Persistent, NonPersistent, Direct}
-use Rattle.sp_flowline.specs.Fields.{has_key, text_at, name_at}
-use Rattle.sp_flowline.specs.Parts.{formed, unless, and_then}
-use Rattle.sp_flowline.specs.Payloads.{payload_in}
+use Rattle.sp_json.specs.Fields.{has_key, text_at, choice_or, name_at}
+use Rattle.sp_json.specs.Parts.{formed, unless, and_then}
+use Rattle.sp_json.specs.Payloads.{payload_in}
 
 -- all modes
 abbrev pub all_modes : List Mode
@@ -24,14 +24,6 @@ abbrev pub mode_word : Mode → List ℕ
 mode_word Persistent = codes "persistent"
 mode_word NonPersistent = codes "non-persistent"
 mode_word Direct = codes "direct"
-
--- the mode of a word
-abbrev pub mode_named : List ℕ → Option Mode
-mode_named word = find (λ mode. bytes_eq (mode_word mode) word) all_modes
-
--- the mode that a field names: persistent, where it is absent
-abbrev pub mode_at : List ℕ → Data → Option Mode
-mode_at key d = if has_key key d then option_and_then mode_named (text_at key d) else Some Persistent
 
 -- the topic that a text is, or why it is none
 abbrev pub topic_from : List ℕ → Result Dest Refusal
@@ -52,10 +44,10 @@ abbrev pub sent : Mode → Result Dest Refusal → List ℕ → Result Event Ref
 sent Direct dest payload = Err DirectMode
 sent mode dest payload = and_then dest (λ dest. Ok (events.Publish (message_to dest payload)))
 
--- a message for a topic or a queue
+-- a message for a topic or a queue, sent in the persistent mode where none is named
 abbrev pub publish_in : Data → Result Event Refusal
 publish_in d =
-    and_then (formed (mode_at (codes "mode") d)) (λ mode.
+    and_then (formed (choice_or mode_word all_modes Persistent (codes "mode") d)) (λ mode.
     and_then (formed (dest_in d)) (λ dest.
     and_then (formed (payload_in d)) (λ payload.
     sent mode dest payload)))

@@ -1,17 +1,16 @@
 -- What a reply shows, as a JSON value. The keys stand in the order of their bytes.
-use Rattle.std.specs.Prelude.{ℕ, List, map, fold, codes, Option, Some, None}
-use Rattle.serde_json.specs.View.{items_of}
-use Rattle.serde_json.specs.Data.{Data, string, object, array, Members, member, no_members, put}
-use Rattle.sp_copies.specs.declared.closed.CauseCount.{CauseCount}
+use Rattle.std.specs.Prelude.{ℕ, List, Option, codes}
+use Rattle.serde_json.specs.Data.{Data, string, object, member, no_members}
 use Rattle.sp_copies.specs.declared.closed.Fate.{Fate}
 use Rattle.sp_event.specs.declared.answer.PublishedCopy.{PublishedCopy}
 use Rattle.sp_event.specs.declared.answer.CopyDetails.{CopyDetails}
 use Rattle.sp_event.specs.declared.answer.Tally.{Tally}
 use Rattle.sp_event.specs.declared.answer.Reply.{Reply}
 use Rattle.sp_event.specs.declared.answer.Reply.TheVariants as replies
-use Rattle.sp_flowline.specs.Fates.{cause_word, with_fate}
+use Rattle.sp_json.specs.Fates.{with_fate}
+use Rattle.sp_json.specs.Members.{whole}
+use Rattle.sp_json.specs.Told.{copies_data, causes_data, with_details}
 use Rattle.sp_flowline.specs.FlowReplies.{bind_data, unbind_data, pull_data, settle_data}
-use Rattle.sp_flowline.specs.Refusals.{whole}
 
 -- an endpoint that came, and its number
 abbrev pub provision_data : List ℕ → ℕ → ℕ → Data
@@ -28,28 +27,12 @@ endpoint_data endpoint op unit = object
     (member (codes "ok") (string op)
     (member (codes "unit") (whole unit) no_members)))
 
--- a copy that was made, its endpoint and its fate
-abbrev pub told_data : PublishedCopy → Data
-told_data c = object (with_fate c.fate
-    (member (codes "copy") (whole c.copy)
-    (member (codes "endpoint") (string c.endpoint) no_members)))
-
-abbrev pub copies_data : List PublishedCopy → Data
-copies_data copies = array (items_of (map told_data copies))
-
 abbrev pub publish_data : ℕ → List PublishedCopy → ℕ → Data
 publish_data message copies unit = object
     (member (codes "copies") (copies_data copies)
     (member (codes "message") (whole message)
     (member (codes "ok") (string (codes "publish"))
     (member (codes "unit") (whole unit) no_members))))
-
--- the causes by name, each with its count
-abbrev pub with_cause : Members → CauseCount → Members
-with_cause ms k = put (cause_word k.cause) (whole k.count) ms
-
-abbrev pub causes_data : List CauseCount → Data
-causes_data counts = object (fold with_cause no_members counts)
 
 abbrev pub tally_data : Tally → ℕ → Data
 tally_data t unit = object
@@ -62,14 +45,6 @@ tally_data t unit = object
     (member (codes "spooled") (whole t.spooled)
     (member (codes "unit") (whole unit)
     (member (codes "used") (whole t.used) no_members)))))))))
-
--- fields with the details of a copy, where they are told
-abbrev pub with_details : Option CopyDetails → Members → Members
-with_details None ms = ms
-with_details (Some details) ms =
-    put (codes "attempts") (whole details.attempts)
-    (put (codes "endpoint") (whole details.endpoint)
-    (put (codes "message") (whole details.message) ms))
 
 -- what has become of a copy
 abbrev pub copy_data : ℕ → Fate → Option CopyDetails → ℕ → Data

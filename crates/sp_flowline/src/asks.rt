@@ -1,28 +1,29 @@
 // Requests from the fields of a JSON object.
 ghost use Rattle.std.specs.Prelude.{◌≡◌, IfOk, option_map};
 ghost use Rattle.serde_json.specs.View.{view};
-ghost use Rattle.sp_flowline.specs.Asks.{tally_in, copy_in, ask_in};
-ghost use Rattle.sp_flowline.specs.Outcome.{Takes};
-ghost use Rattle.sp_flowline.specs.Parts.{formed, done, looked};
+ghost use Rattle.sp_flowline.specs.Asks.{done, looked, tally_in, copy_in, ask_in};
+ghost use Rattle.sp_base.specs.Declined.{Obeys};
+ghost use Rattle.sp_json.specs.Parts.{formed};
 
 use crate::endpoint_events::{
     change_in, deprovision_in, provision_in, subscribe_in, unsubscribe_in,
 };
-use crate::fields::{number_at, optional_name_at};
 use crate::flow_events::{bind_in, pull_in, settle_in, unbind_in};
 use crate::op::Op;
 use crate::publishes::publish_in;
-use crate::read::{ReadError, malformed};
 use serde_json::Value;
-use sp_base::number::CopyNo;
+use sp_base::declined::Declined;
+use sp_base::refusal::Refusal;
 use sp_event::request::{Ask, Event, Query};
+use sp_json::fields::{optional_name_at, ranged_at};
+use sp_json::parts::malformed;
 use std::alloc::{AllocError, Global};
 
 /// The request that the fields of an operation ask for. It is refused as a bad request with the `at`
 /// 4 where one has the wrong JSON kind, or a value outside its form; and else by its mode, topic,
 /// subscription or attributes, where they are none or not for it.
-pub fn ask_in(alloc: Global, value: &Value, op: Op) -> Result<Ask, ReadError>
-    ensures { Takes (ask_in op (view value.now)) result }
+pub fn ask_in(alloc: Global, value: &Value, op: Op) -> Result<Ask, Declined<Refusal>>
+    ensures { Obeys (ask_in op (view value.now)) result }
 {
     match op {
         Op::Provision => Ok(Ask::Do(provision_in(alloc, value)?)),
@@ -40,8 +41,8 @@ pub fn ask_in(alloc: Global, value: &Value, op: Op) -> Result<Ask, ReadError>
     }
 }
 
-fn done(event: Option<Event>) -> Result<Ask, ReadError>
-    ensures { Takes (done (formed event)) result }
+fn done(event: Option<Event>) -> Result<Ask, Declined<Refusal>>
+    ensures { Obeys (done (formed event)) result }
 {
     match event {
         Some(event) => Ok(Ask::Do(event)),
@@ -49,8 +50,8 @@ fn done(event: Option<Event>) -> Result<Ask, ReadError>
     }
 }
 
-fn looked(query: Option<Query>) -> Result<Ask, ReadError>
-    ensures { Takes (looked (formed query)) result }
+fn looked(query: Option<Query>) -> Result<Ask, Declined<Refusal>>
+    ensures { Obeys (looked (formed query)) result }
 {
     match query {
         Some(query) => Ok(Ask::Look(query)),
@@ -70,8 +71,6 @@ fn tally_in(alloc: Global, value: &Value) -> Result<Option<Query>, AllocError>
 fn copy_in(value: &Value) -> Option<Query>
     ensures { result ≡ copy_in (view value.now) }
 {
-    let copy = number_at(value, "copy")?;
-    Some(Query::Copy {
-        copy: CopyNo::new(copy),
-    })
+    let copy = ranged_at(value, "copy")?;
+    Some(Query::Copy { copy })
 }

@@ -1,27 +1,28 @@
 // Requests of endpoints, from the fields of a JSON object.
 ghost use Rattle.std.specs.Prelude.{◌≡◌, IfOk};
 ghost use Rattle.serde_json.specs.View.{view};
-ghost use Rattle.sp_flowline.specs.EndpointEvents.{kind_at, provision_in, deprovision_in, change_in, subscription_from, subscription_at, subscribe_in, unsubscribe_in};
-ghost use Rattle.sp_flowline.specs.Outcome.{Takes};
+ghost use Rattle.sp_flowline.specs.EndpointEvents.{provision_in, deprovision_in, change_in, subscribe_in, unsubscribe_in};
+ghost use Rattle.sp_base.specs.Declined.{Obeys};
 
-use crate::attributes::{optional_settings_at, settings_at};
-use crate::fields::{has_key, name_at, text_at};
-use crate::read::{ReadError, malformed};
 use serde_json::Value;
+use sp_base::declined::Declined;
 use sp_base::refusal::Refusal;
 use sp_config::kind::EndpointKind;
 use sp_event::request::Event;
-use sp_topic::subscription::{Subscription, SubscriptionError};
+use sp_json::attributes::{optional_settings_at, settings_at};
+use sp_json::fields::{choice_or, name_at};
+use sp_json::parts::malformed;
+use sp_json::subscriptions::subscription_at;
 use std::alloc::{AllocError, Global};
 
 /// A new endpoint.
-pub fn provision_in(alloc: Global, value: &Value) -> Result<Event, ReadError>
-    ensures { Takes (provision_in (view value.now)) result }
+pub fn provision_in(alloc: Global, value: &Value) -> Result<Event, Declined<Refusal>>
+    ensures { Obeys (provision_in (view value.now)) result }
 {
     let Some(endpoint) = name_at(alloc, value, "endpoint")? else {
         return Err(malformed());
     };
-    let Some(kind) = kind_at(value, "kind") else {
+    let Some(kind) = choice_or(value, "kind", EndpointKind::Queue) else {
         return Err(malformed());
     };
     let attributes = optional_settings_at(alloc, value, "attributes", kind)?;
@@ -44,8 +45,8 @@ pub fn deprovision_in(alloc: Global, value: &Value) -> Result<Option<Event>, All
 
 /// Other values for some attributes of an endpoint. Its kind isn't known here, so only the ranges
 /// count.
-pub fn change_in(alloc: Global, value: &Value) -> Result<Event, ReadError>
-    ensures { Takes (change_in (view value.now)) result }
+pub fn change_in(alloc: Global, value: &Value) -> Result<Event, Declined<Refusal>>
+    ensures { Obeys (change_in (view value.now)) result }
 {
     let Some(endpoint) = name_at(alloc, value, "endpoint")? else {
         return Err(malformed());
@@ -58,8 +59,8 @@ pub fn change_in(alloc: Global, value: &Value) -> Result<Event, ReadError>
 }
 
 /// A subscription for an endpoint.
-pub fn subscribe_in(alloc: Global, value: &Value) -> Result<Event, ReadError>
-    ensures { Takes (subscribe_in (view value.now)) result }
+pub fn subscribe_in(alloc: Global, value: &Value) -> Result<Event, Declined<Refusal>>
+    ensures { Obeys (subscribe_in (view value.now)) result }
 {
     let Some(endpoint) = name_at(alloc, value, "endpoint")? else {
         return Err(malformed());
@@ -72,8 +73,8 @@ pub fn subscribe_in(alloc: Global, value: &Value) -> Result<Event, ReadError>
 }
 
 /// The end of an endpoint's subscription.
-pub fn unsubscribe_in(alloc: Global, value: &Value) -> Result<Event, ReadError>
-    ensures { Takes (unsubscribe_in (view value.now)) result }
+pub fn unsubscribe_in(alloc: Global, value: &Value) -> Result<Event, Declined<Refusal>>
+    ensures { Obeys (unsubscribe_in (view value.now)) result }
 {
     let Some(endpoint) = name_at(alloc, value, "endpoint")? else {
         return Err(malformed());
@@ -83,37 +84,4 @@ pub fn unsubscribe_in(alloc: Global, value: &Value) -> Result<Event, ReadError>
         endpoint,
         subscription,
     })
-}
-
-// The kind of an endpoint that a field names: a queue where it is absent.
-fn kind_at(value: &Value, key: &str) -> Option<EndpointKind>
-    ensures { result ≡ kind_at key.now (view value.now) }
-{
-    if !has_key(value, key) {
-        return Some(EndpointKind::Queue);
-    }
-    let word = text_at(value, key)?;
-    EndpointKind::named(word)
-}
-
-/// The subscription in a field.
-pub fn subscription_at(alloc: Global, value: &Value, key: &str) -> Result<Subscription, ReadError>
-    ensures { Takes (subscription_at key.now (view value.now)) result }
-{
-    match text_at(value, key) {
-        Some(text) => subscription_from(alloc, text),
-        None => Err(malformed()),
-    }
-}
-
-fn subscription_from(alloc: Global, text: &str) -> Result<Subscription, ReadError>
-    ensures { Takes (subscription_from text.now) result }
-{
-    match Subscription::read(alloc, text.as_bytes()) {
-        Ok(subscription) => Ok(subscription),
-        Err(SubscriptionError::Bad { at }) => Err(ReadError::Refused {
-            refusal: Refusal::BadSubscription { at },
-        }),
-        Err(SubscriptionError::Memory) => Err(ReadError::Memory),
-    }
 }

@@ -1,23 +1,23 @@
 // Requests of flows, from the fields of a JSON object.
 ghost use Rattle.std.specs.Prelude.{◌≡◌};
 ghost use Rattle.serde_json.specs.View.{view};
-ghost use Rattle.sp_flowline.specs.FlowEvents.{plain_of, optional_plain_at, bind_in, unbind_in, pull_in, settle_in};
-ghost use Rattle.sp_flowline.specs.Outcome.{Takes};
+ghost use Rattle.sp_flowline.specs.FlowEvents.{plain_of, optional_plain_at, bind_in, unbind_in, pull_in, outcome_at, settle_in};
+ghost use Rattle.sp_base.specs.Declined.{Obeys};
 
-use crate::endpoint_events::subscription_at;
-use crate::fields::{count_at, has_key, name_at, number_at, outcome_at};
-use crate::read::{ReadError, malformed};
 use serde_json::Value;
-use sp_base::number::{CopyNo, FlowNo};
+use sp_base::declined::Declined;
 use sp_base::refusal::Refusal;
-use sp_event::request::Event;
+use sp_event::request::{Event, Outcome, PullCount};
+use sp_json::fields::{has_key, name_at, ranged_at, ranged_or, text_at};
+use sp_json::parts::malformed;
+use sp_json::subscriptions::subscription_at;
 use sp_topic::subscription::Subscription;
 use std::alloc::Global;
 
 /// A new flow on the endpoint that is named, with the topic that a topic endpoint takes from now on.
 /// Whether the topic fits the endpoint isn't known here.
-pub fn bind_in(alloc: Global, value: &Value) -> Result<Event, ReadError>
-    ensures { Takes (bind_in (view value.now)) result }
+pub fn bind_in(alloc: Global, value: &Value) -> Result<Event, Declined<Refusal>>
+    ensures { Obeys (bind_in (view value.now)) result }
 {
     let Some(endpoint) = name_at(alloc, value, "endpoint")? else {
         return Err(malformed());
@@ -30,8 +30,8 @@ fn optional_plain_at(
     alloc: Global,
     value: &Value,
     key: &str,
-) -> Result<Option<Subscription>, ReadError>
-    ensures { Takes (optional_plain_at key.now (view value.now)) result }
+) -> Result<Option<Subscription>, Declined<Refusal>>
+    ensures { Obeys (optional_plain_at key.now (view value.now)) result }
 {
     if !has_key(value, key) {
         return Ok(None);
@@ -40,13 +40,11 @@ fn optional_plain_at(
     Ok(Some(plain_of(subscription)?))
 }
 
-fn plain_of(subscription: Subscription) -> Result<Subscription, ReadError>
-    ensures { Takes (plain_of subscription) result }
+fn plain_of(subscription: Subscription) -> Result<Subscription, Declined<Refusal>>
+    ensures { Obeys (plain_of subscription) result }
 {
     if subscription.is_exception() {
-        return Err(ReadError::Refused {
-            refusal: Refusal::BadSubscription { at: 0 },
-        });
+        return Err(Declined::Refused(Refusal::BadSubscription { at: 0 }));
     }
     Ok(subscription)
 }
@@ -55,34 +53,40 @@ fn plain_of(subscription: Subscription) -> Result<Subscription, ReadError>
 pub fn unbind_in(value: &Value) -> Option<Event>
     ensures { result ≡ unbind_in (view value.now) }
 {
-    let flow = number_at(value, "flow")?;
-    Some(Event::Unbind {
-        flow: FlowNo::new(flow),
-    })
+    let flow = ranged_at(value, "flow")?;
+    Some(Event::Unbind { flow })
 }
 
-/// Copies for a flow.
+/// Copies for a flow: one, where their count is absent.
 pub fn pull_in(value: &Value) -> Option<Event>
     ensures { result ≡ pull_in (view value.now) }
 {
-    let flow = number_at(value, "flow")?;
-    let count = count_at(value, "count")?;
-    Some(Event::Pull {
-        flow: FlowNo::new(flow),
-        count,
-    })
+    let flow = ranged_at(value, "flow")?;
+    let count = ranged_or(value, "count", PullCount::of(1))?;
+    Some(Event::Pull { flow, count })
 }
 
 /// A copy that a flow settles.
 pub fn settle_in(value: &Value) -> Option<Event>
     ensures { result ≡ settle_in (view value.now) }
 {
-    let flow = number_at(value, "flow")?;
-    let copy = number_at(value, "copy")?;
+    let flow = ranged_at(value, "flow")?;
+    let copy = ranged_at(value, "copy")?;
     let outcome = outcome_at(value, "outcome")?;
     Some(Event::Settle {
-        flow: FlowNo::new(flow),
-        copy: CopyNo::new(copy),
+        flow,
+        copy,
         outcome,
     })
+}
+
+// The outcome that a field names.
+fn outcome_at(value: &Value, key: &str) -> Option<Outcome>
+    ensures { result ≡ outcome_at key.now (view value.now) }
+{
+    let word = text_at(value, key)?;
+    if word == "accepted" {
+        return Some(Outcome::Accepted);
+    }
+    None
 }

@@ -3,20 +3,15 @@
 #![tactic(auto)]
 
 mod asks;
-mod attributes;
 mod endpoint_events;
-mod fates;
-mod fields;
 mod flow_events;
 mod flow_replies;
+pub mod laws;
 pub mod line;
-mod members;
 mod mode;
 pub mod op;
-mod payloads;
 mod publishes;
 pub mod read;
-mod refusals;
 mod replies;
 #[cfg(test)]
 mod tests;

@@ -1,14 +1,15 @@
 ghost use Rattle.std.specs.Prelude.{◌≡◌, ◌++◌, ◌∷◌, [], false, IfOk, OnOk, OnErr};
 ghost use Rattle.serde_json.specs.View.{view};
 ghost use Rattle.serde_json.specs.Written.{compact_text, has_float};
-ghost use Rattle.sp_flowline.specs.Answers.{refused_data, full_data, answer_data, line_of};
+ghost use Rattle.sp_flowline.specs.Answers.{refusal_data, refused_data, full_data, answer_data, line_of};
 
-use crate::refusals::refusal_value;
 use crate::replies::reply_value;
 use serde_json::{Value, json};
 use sp_base::failure::Memory;
 use sp_base::refusal::Refusal;
 use sp_event::answer::Answered;
+use sp_json::members::{put_text, put_whole};
+use sp_json::refusals::shown_members;
 use std::alloc::{AllocError, Global};
 
 /// Appends the line of an answer at a number of units: compact JSON, its keys in ascending byte
@@ -48,6 +49,16 @@ fn answer_value(alloc: Global, answer: &Answered, unit: u64) -> Result<Value, Al
         Answered::Disk => json!(in alloc; {"fault": "disk"}),
         Answered::Full { len, need, max } => full_value(alloc, *len, *need, *max),
     }
+}
+
+fn refusal_value(alloc: Global, refusal: &Refusal) -> Result<Value, AllocError>
+    ensures { IfOk result (λ v. view v ≡ refusal_data refusal.now) }
+{
+    let mut map = shown_members(alloc, refusal)?;
+    let rule = refusal.rule();
+    put_text(&mut map, alloc, "rule", rule.name)?;
+    put_whole(&mut map, alloc, "no", rule.number as u64)?;
+    Ok(Value::Object(map))
 }
 
 fn refused_value(alloc: Global, refusal: &Refusal, unit: u64) -> Result<Value, AllocError>

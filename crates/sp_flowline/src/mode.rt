@@ -1,6 +1,4 @@
-ghost use Rattle.std.specs.Prelude.{◌≡◌, find, bytes_eq};
-ghost use Rattle.std.specs.Option.{option_copied};
-ghost use Rattle.sp_flowline.specs.Publishes.{mode_word, mode_named};
+use sp_base::choice::Choice;
 
 /// How a message is sent.
 #[derive(Clone, Copy, Debug, PartialEq, Eq)]
@@ -13,14 +11,16 @@ pub enum Mode {
     Direct,
 }
 
-impl Mode {
-    /// All modes.
-    pub const ALL: [Mode; 3] = [Mode::Persistent, Mode::NonPersistent, Mode::Direct];
+impl Choice for Mode {
+    ghost use Rattle.std.specs.Prelude.{refl};
+    ghost use Rattle.sp_flowline.specs.declared.mode.Mode.TheVariants.{Persistent, NonPersistent, Direct};
+    ghost use Rattle.sp_flowline.specs.Publishes.{mode_word, all_modes};
 
-    /// The word for it.
-    pub fn word(self) -> &'static str
-        ensures { result.now ≡ mode_word self }
-    {
+    ghost word_of = { mode_word };
+
+    ghost choices = { all_modes };
+
+    fn word(self) -> &'static str {
         match self {
             Mode::Persistent => "persistent",
             Mode::NonPersistent => "non-persistent",
@@ -28,16 +28,9 @@ impl Mode {
         }
     }
 
-    /// The mode of a word. None where the word isn't one.
-    pub fn named(word: &str) -> Option<Mode>
-        ensures { result ≡ mode_named word.now }
-    {
-        mode_among(&Mode::ALL, word).copied()
+    fn all() -> &'static [Mode] {
+        &[Mode::Persistent, Mode::NonPersistent, Mode::Direct]
     }
-}
 
-fn mode_among<'a>(modes: &'a [Mode], word: &str) -> Option<&'a Mode>
-    ensures { option_copied result ≡ find (λ mode. bytes_eq (mode_word mode) word.now) modes.now }
-{
-    modes.iter().find(|mode| mode.word() == word)
+    ghost each_by_its_word = { elim [ Persistent ↦ refl | NonPersistent ↦ refl | Direct ↦ refl ] };
 }

@@ -1,6 +1,8 @@
-ghost use Rattle.std.specs.Prelude.{◌≡◌, ◌||◌, codes, bytes_eq, find};
-ghost use Rattle.std.specs.Option.{option_copied};
-ghost use Rattle.sp_flowline.specs.Op.{op_word, op_named, has_field};
+ghost use Rattle.std.specs.Prelude.{◌≡◌};
+ghost use Rattle.sp_flowline.specs.Op.{fields_of};
+
+use sp_base::choice::Choice;
+use sp_json::names::FieldNames;
 
 /// What a request asks for.
 #[derive(Clone, Copy, Debug, PartialEq, Eq)]
@@ -19,27 +21,16 @@ pub enum Op {
     Copy,
 }
 
-impl Op {
-    /// All operations.
-    pub const ALL: [Op; 12] = [
-        Op::Provision,
-        Op::Deprovision,
-        Op::Change,
-        Op::Subscribe,
-        Op::Unsubscribe,
-        Op::Publish,
-        Op::Bind,
-        Op::Unbind,
-        Op::Pull,
-        Op::Settle,
-        Op::Tally,
-        Op::Copy,
-    ];
+impl Choice for Op {
+    ghost use Rattle.std.specs.Prelude.{refl};
+    ghost use Rattle.sp_flowline.specs.declared.op.Op.TheVariants.{Provision, Deprovision, Change, Subscribe, Unsubscribe, Publish, Bind, Unbind, Pull, Settle, Tally, Copy};
+    ghost use Rattle.sp_flowline.specs.Op.{op_word, all_ops};
 
-    /// The word for it.
-    pub fn word(self) -> &'static str
-        ensures { result.now ≡ op_word self }
-    {
+    ghost word_of = { op_word };
+
+    ghost choices = { all_ops };
+
+    fn word(self) -> &'static str {
         match self {
             Op::Provision => "provision",
             Op::Deprovision => "deprovision",
@@ -56,43 +47,49 @@ impl Op {
         }
     }
 
-    /// The operation of a word. None where the word isn't one.
-    pub fn named(word: &str) -> Option<Op>
-        ensures { result ≡ op_named word.now }
-    {
-        op_among(&Op::ALL, word).copied()
+    fn all() -> &'static [Op] {
+        &[
+            Op::Provision,
+            Op::Deprovision,
+            Op::Change,
+            Op::Subscribe,
+            Op::Unsubscribe,
+            Op::Publish,
+            Op::Bind,
+            Op::Unbind,
+            Op::Pull,
+            Op::Settle,
+            Op::Tally,
+            Op::Copy,
+        ]
     }
 
-    /// Whether a request of the operation may have a field of this name.
-    pub fn has_field(self, key: &str) -> bool
-        ensures { result ≡ has_field self key.now }
-    {
-        if key == "op" {
-            return true;
-        }
-        match self {
-            Op::Provision => key == "endpoint" || key == "kind" || key == "attributes",
-            Op::Change => key == "endpoint" || key == "attributes",
-            Op::Subscribe | Op::Unsubscribe => key == "endpoint" || key == "subscription",
-            Op::Deprovision | Op::Tally => key == "endpoint",
-            Op::Publish => {
-                key == "topic"
-                    || key == "queue"
-                    || key == "mode"
-                    || key == "payload"
-                    || key == "payload64"
-            }
-            Op::Bind => key == "endpoint" || key == "topic",
-            Op::Unbind => key == "flow",
-            Op::Pull => key == "flow" || key == "count",
-            Op::Settle => key == "flow" || key == "copy" || key == "outcome",
-            Op::Copy => key == "copy",
-        }
-    }
+    ghost each_by_its_word = { elim [ Provision ↦ refl | Deprovision ↦ refl | Change ↦ refl | Subscribe ↦ refl | Unsubscribe ↦ refl | Publish ↦ refl | Bind ↦ refl | Unbind ↦ refl | Pull ↦ refl | Settle ↦ refl | Tally ↦ refl | Copy ↦ refl ] };
 }
 
-fn op_among<'a>(ops: &'a [Op], word: &str) -> Option<&'a Op>
-    ensures { option_copied result ≡ find (λ op. bytes_eq (op_word op) word.now) ops.now }
-{
-    ops.iter().find(|op| op.word() == word)
+impl Op {
+    /// The names of the fields that its requests have: those that have to be there, those of which
+    /// one has to be there, and those that may be.
+    pub fn fields(self) -> FieldNames
+        ensures { result ≡ fields_of self }
+    {
+        match self {
+            Op::Provision => FieldNames::new(&["op", "endpoint"], &[], &["kind", "attributes"]),
+            Op::Deprovision => FieldNames::new(&["op", "endpoint"], &[], &[]),
+            Op::Change => FieldNames::new(&["op", "endpoint", "attributes"], &[], &[]),
+            Op::Subscribe => FieldNames::new(&["op", "endpoint", "subscription"], &[], &[]),
+            Op::Unsubscribe => FieldNames::new(&["op", "endpoint", "subscription"], &[], &[]),
+            Op::Publish => FieldNames::new(
+                &["op"],
+                &["topic", "queue"],
+                &["mode", "payload", "payload64"],
+            ),
+            Op::Bind => FieldNames::new(&["op", "endpoint"], &[], &["topic"]),
+            Op::Unbind => FieldNames::new(&["op", "flow"], &[], &[]),
+            Op::Pull => FieldNames::new(&["op", "flow"], &[], &["count"]),
+            Op::Settle => FieldNames::new(&["op", "flow", "copy", "outcome"], &[], &[]),
+            Op::Tally => FieldNames::new(&["op"], &[], &["endpoint"]),
+            Op::Copy => FieldNames::new(&["op", "copy"], &[], &[]),
+        }
+    }
 }

@@ -1,28 +1,29 @@
 // A publish, from the fields of a JSON object.
 ghost use Rattle.std.specs.Prelude.{◌≡◌, IfOk};
 ghost use Rattle.serde_json.specs.View.{view};
-ghost use Rattle.sp_flowline.specs.Outcome.{Takes};
-ghost use Rattle.sp_flowline.specs.Publishes.{mode_at, topic_from, dest_in, message_to, sent, publish_in};
+ghost use Rattle.sp_base.specs.Declined.{Obeys};
+ghost use Rattle.sp_flowline.specs.Publishes.{topic_from, dest_in, message_to, sent, publish_in};
 
-use crate::fields::{has_key, name_at, text_at};
 use crate::mode::Mode;
-use crate::payloads::payload_in;
-use crate::read::{ReadError, malformed};
 use serde_json::Value;
+use sp_base::declined::Declined;
 use sp_base::refusal::Refusal;
 use sp_base::topic::{Topic, TopicError};
 use sp_event::request::Event;
-use sp_message::message::{Dest, Message};
+use sp_json::fields::{choice_or, has_key, name_at, text_at};
+use sp_json::parts::malformed;
+use sp_json::payloads::payload_in;
+use sp_message::message::{Dest, Message, TimeToLive};
 use sp_message::payload::Payload;
 use sp_message::property::Properties;
 use std::alloc::{AllocError, Global};
 
 /// A message for a topic or a queue. A field outside its form is told first, then the direct mode,
 /// and then a topic that is none.
-pub fn publish_in(alloc: Global, value: &Value) -> Result<Event, ReadError>
-    ensures { Takes (publish_in (view value.now)) result }
+pub fn publish_in(alloc: Global, value: &Value) -> Result<Event, Declined<Refusal>>
+    ensures { Obeys (publish_in (view value.now)) result }
 {
-    let Some(mode) = mode_at(value, "mode") else {
+    let Some(mode) = choice_or(value, "mode", Mode::Persistent) else {
         return Err(malformed());
     };
     let Some(dest) = dest_in(alloc, value)? else {
@@ -39,19 +40,17 @@ fn sent(
     mode: Mode,
     dest: Result<Dest, Refusal>,
     payload: Payload,
-) -> Result<Event, ReadError>
-    ensures { Takes (sent mode dest payload) result }
+) -> Result<Event, Declined<Refusal>>
+    ensures { Obeys (sent mode dest payload) result }
 {
     if mode == Mode::Direct {
-        return Err(ReadError::Refused {
-            refusal: Refusal::DirectMode,
-        });
+        return Err(Declined::Refused(Refusal::DirectMode));
     }
     match dest {
         Ok(dest) => Ok(Event::Publish {
             message: message_to(alloc, dest, payload),
         }),
-        Err(refusal) => Err(ReadError::Refused { refusal }),
+        Err(refusal) => Err(Declined::Refused(refusal)),
     }
 }
 
@@ -61,21 +60,10 @@ fn message_to(alloc: Global, dest: Dest, payload: Payload) -> Message
     Message {
         dest,
         payload,
-        ttl: 0,
+        ttl: TimeToLive::of(0),
         eligible: false,
         properties: Properties::none(alloc),
     }
-}
-
-// The mode that a field names: persistent where it is absent.
-fn mode_at(value: &Value, key: &str) -> Option<Mode>
-    ensures { result ≡ mode_at key.now (view value.now) }
-{
-    if !has_key(value, key) {
-        return Some(Mode::Persistent);
-    }
-    let word = text_at(value, key)?;
-    Mode::named(word)
 }
 
 // Where the message goes, or why its topic is none. None where a field is outside its form.

@@ -1,37 +1,18 @@
-ghost use Rattle.std.specs.Prelude.{◌≡◌, ◌==◌, codes, Some, None};
+ghost use Rattle.std.specs.Prelude.{◌≡◌, ◌==◌, ◌&&◌, Some, None};
 ghost use Rattle.std.specs.List.{list_any};
 ghost use Rattle.serde_json.specs.View.{view};
-ghost use Rattle.sp_flowline.specs.Request.{IsReadAs, reading_of};
-ghost use Rattle.sp_flowline.specs.Outcome.{Reads, Gives};
+ghost use Rattle.sp_base.specs.Declined.{Obeys};
+ghost use Rattle.sp_json.specs.Fields.{has_key};
+ghost use Rattle.sp_flowline.specs.Request.{IsReadAs, Reads, reading_of, has_exclusive};
 
 use crate::asks::ask_in;
-use crate::fields::{another_field, has_required, has_two_destinations, has_two_payloads, op_at};
+use crate::op::Op;
 use serde_json::Value;
+use sp_base::declined::Declined;
 use sp_base::refusal::Refusal;
 use sp_event::request::Ask;
-use std::alloc::{AllocError, Global};
-use thiserror::Error;
-
-/// Why no request was read.
-#[derive(Debug, Drop, Error)]
-pub enum ReadError {
-    /// The line is no request.
-    #[error("refused: {refusal:?}")]
-    Refused { refusal: Refusal },
-    #[error("want of memory")]
-    Memory,
-}
-
-impl From<AllocError> for ReadError {
-    ghost use Rattle.std.specs.Prelude.{◌≡◌};
-    ghost use Rattle.sp_flowline.specs.declared.read.ReadError.TheVariants.{Memory};
-
-    ghost from_gives = { λ _ e. e ≡ Memory };
-
-    fn from(_: AllocError) -> Self {
-        ReadError::Memory
-    }
-}
+use sp_json::fields::{choice_at, has_key};
+use std::alloc::Global;
 
 /// The request that a line is, without its line feed. A line that is none is refused as a bad
 /// request whose `at` is the first that applies: 0, the bytes are no JSON text of one line;
@@ -40,7 +21,7 @@ impl From<AllocError> for ReadError {
 /// other; 4, a field has the wrong JSON kind or a value outside its range. The direct mode, a topic
 /// or a subscription that is none, and the first attribute that is unknown or can't have its value,
 /// are refused after that, each by its own rule.
-pub fn read(alloc: Global, line: &[u8]) -> Result<Ask, ReadError>
+pub fn read(alloc: Global, line: &[u8]) -> Result<Ask, Declined<Refusal>>
     ensures { Reads line.now result }
 {
     if has_line_feed(line) {
@@ -50,7 +31,7 @@ pub fn read(alloc: Global, line: &[u8]) -> Result<Ask, ReadError>
         Ok(value) => read_value(alloc, &value),
         Err(error) => {
             if error.is_memory() {
-                Err(ReadError::Memory)
+                Err(Declined::Memory)
             } else {
                 Err(bad(0))
             }
@@ -64,35 +45,38 @@ fn has_line_feed(line: &[u8]) -> bool
     line.iter().any(|b| *b == b'\n')
 }
 
-fn bad(at: u64) -> ReadError
-    ensures { result ≡ ReadError.Refused (Refusal.BadRequest at) }
+fn bad(at: u64) -> Declined<Refusal>
+    ensures { result ≡ Declined.Refused (Refusal.BadRequest at) }
 {
-    ReadError::Refused {
-        refusal: Refusal::BadRequest { at },
-    }
+    Declined::Refused(Refusal::BadRequest { at })
 }
 
-/// A field has the wrong JSON kind, or a value outside its form.
-pub fn malformed() -> ReadError
-    ensures { result ≡ ReadError.Refused (Refusal.BadRequest 4) }
+fn read_value(alloc: Global, value: &Value) -> Result<Ask, Declined<Refusal>>
+    ensures { Obeys (reading_of (view value.now)) result }
 {
-    bad(4)
-}
-
-fn read_value(alloc: Global, value: &Value) -> Result<Ask, ReadError>
-    ensures { Gives (reading_of (view value.now)) result }
-{
-    let Some(op) = op_at(value, "op") else {
+    let Some(op) = choice_at::<Op>(value, "op") else {
         return Err(bad(1));
     };
-    if !has_required(value, op) {
+    let fields = op.fields();
+    if !fields.has_required(value) {
         return Err(bad(2));
     }
-    if another_field(value, op) || has_two_payloads(value) || has_two_destinations(value) {
+    if fields.has_another(value) || has_exclusive(value) {
         return Err(bad(3));
     }
-    match ask_in(alloc, value, op) {
-        Ok(ask) => Ok(ask),
-        Err(error) => Err(error),
-    }
+    ask_in(alloc, value, op)
+}
+
+// Whether there are two fields that exclude each other: both forms of a payload, or both
+// destinations.
+fn has_exclusive(value: &Value) -> bool
+    ensures { result ≡ has_exclusive (view value.now) }
+{
+    has_both(value, "payload", "payload64") || has_both(value, "topic", "queue")
+}
+
+fn has_both(value: &Value, one: &str, other: &str) -> bool
+    ensures { result ≡ (has_key one.now (view value.now) && has_key other.now (view value.now)) }
+{
+    has_key(value, one) && has_key(value, other)
 }

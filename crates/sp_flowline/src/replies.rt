@@ -1,14 +1,15 @@
 // Replies as JSON values.
-ghost use Rattle.std.specs.Prelude.{◌≡◌, IfOk, OnOk};
-ghost use Rattle.serde_json.specs.View.{view, members_view};
-ghost use Rattle.sp_flowline.specs.Replies.{provision_data, endpoint_data, told_data, copies_data, publish_data, causes_data, tally_data, with_details, copy_data, reply_data};
+ghost use Rattle.std.specs.Prelude.{◌≡◌, IfOk};
+ghost use Rattle.serde_json.specs.View.{view};
+ghost use Rattle.sp_flowline.specs.Replies.{provision_data, endpoint_data, publish_data, tally_data, copy_data, reply_data};
 
-use crate::fates::{cause_word, put_fate};
 use crate::flow_replies::{bind_value, pull_value, settle_value, unbind_value};
-use crate::members::{Members, put_text, put_whole};
 use serde_json::{Map, Value, json};
-use sp_copies::closed::{CauseCount, Fate};
+use sp_copies::closed::Fate;
 use sp_event::answer::{CopyDetails, PublishedCopy, Reply, Tally};
+use sp_json::fates::put_fate;
+use sp_json::members::{put_text, put_whole};
+use sp_json::told::{causes_value, copies_value, put_details};
 use std::alloc::{AllocError, Global};
 
 fn provision_value(
@@ -28,26 +29,6 @@ fn endpoint_value(alloc: Global, endpoint: &str, op: &str, unit: u64) -> Result<
     json!(in alloc; {"endpoint": endpoint, "ok": op, "unit": unit})
 }
 
-fn told_value(alloc: Global, told: &PublishedCopy) -> Result<Value, AllocError>
-    ensures { IfOk result (λ v. view v ≡ told_data told.now) }
-{
-    let mut map = Map::new(alloc);
-    put_whole(&mut map, alloc, "copy", told.copy.value())?;
-    put_text(&mut map, alloc, "endpoint", told.endpoint.as_str())?;
-    put_fate(&mut map, alloc, told.fate)?;
-    Ok(Value::Object(map))
-}
-
-fn copies_value(alloc: Global, copies: &[PublishedCopy]) -> Result<Value, AllocError>
-    ensures { IfOk result (λ v. view v ≡ copies_data copies.now) }
-{
-    let mut values = Vec::new(alloc);
-    for told in copies {
-        values.push(told_value(alloc, told)?)?;
-    }
-    Ok(Value::Array(values))
-}
-
 fn publish_value(
     alloc: Global,
     message: u64,
@@ -60,37 +41,11 @@ fn publish_value(
     json!(in alloc; {"copies": copies, "message": message, "ok": "publish", "unit": unit})
 }
 
-fn causes_value(alloc: Global, counts: &[CauseCount]) -> Result<Value, AllocError>
-    ensures { IfOk result (λ v. view v ≡ causes_data counts.now) }
-{
-    let mut map = Map::new(alloc);
-    for counted in counts {
-        let word = cause_word(counted.cause);
-        put_whole(&mut map, alloc, word, counted.count)?;
-    }
-    Ok(Value::Object(map))
-}
-
 fn tally_value(alloc: Global, t: &Tally, unit: u64) -> Result<Value, AllocError>
     ensures { IfOk result (λ v. view v ≡ tally_data t.now unit) }
 {
     let causes = causes_value(alloc, t.causes.as_slice())?;
     json!(in alloc; {"accepted": t.accepted, "causes": causes, "discarded": t.discarded, "made": t.made, "moved": t.moved, "ok": "tally", "spooled": t.spooled, "unit": unit, "used": t.used})
-}
-
-fn put_details(
-    map: &mut Members,
-    alloc: Global,
-    details: &Option<CopyDetails>,
-) -> Result<(), AllocError>
-    ensures { OnOk result (members_view map.new.entries ≡ with_details details.now (members_view map.old.entries)) }
-{
-    let Some(details) = details else {
-        return Ok(());
-    };
-    put_whole(map, alloc, "message", details.message.value())?;
-    put_whole(map, alloc, "endpoint", details.endpoint.value())?;
-    put_whole(map, alloc, "attempts", details.attempts)
 }
 
 fn copy_value(

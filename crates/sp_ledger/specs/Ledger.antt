@@ -1,20 +1,10 @@
 -- The ledger: everything that was ever published, made and closed, and who may take it.
-use Rattle.std.specs.Prelude.{ℕ, ◌==◌, ◌&&◌, Bool, true, false, List, [], map, find, Option, option_map, bytes_eq, if◌then◌else◌}
-use Rattle.sp_message.specs.declared.message.Message.{Message}
+use Rattle.sp_access.specs.Flow.{FlowView}
 use Rattle.sp_copies.specs.History.{History, empty_history, used_bytes}
-use Rattle.sp_config.specs.Attributes.{AttributesView}
-use Rattle.sp_config.specs.declared.kind.EndpointKind.{EndpointKind}
-use Rattle.sp_config.specs.declared.kind.EndpointKind.TheVariants.{Queue, TopicEndpoint}
-
--- a queue or topic endpoint that is there, with the texts that a queue subscribes to, and the topic
--- that a topic endpoint has from its first bind on
-pub record Endpoint : Type 0 where
-  pub number : ℕ
-  pub name : List ℕ
-  pub kind : EndpointKind
-  pub attributes : AttributesView
-  pub subscriptions : List (List ℕ)
-  pub topic : Option (List ℕ)
+use Rattle.sp_endpoint.specs.Endpoint.{EndpointView}
+use Rattle.sp_endpoint.specs.Endpoints.{named}
+use Rattle.sp_message.specs.declared.message.Message.{Message}
+use Rattle.std.specs.Prelude.{Bool, List, Option, [], false, find, option_map, ℕ, ◌==◌}
 
 -- a message that was published, at its moment
 pub record Published : Type 0 where
@@ -22,13 +12,7 @@ pub record Published : Type 0 where
   pub message : Message
   pub moment : ℕ
 
--- a flow that a caller has bound to an endpoint
-pub record Flow : Type 0 where
-  pub number : ℕ
-  pub endpoint : ℕ
-  pub caller : List ℕ
-
--- the replay log: whether it is on, its size and the quota of all endpoints in MB, and its messages
+-- the replay log: whether it is on, its size and the quota of all endpoints in MB, and the numbers of its messages
 pub record Log : Type 0 where
   pub enabled : Bool
   pub size : ℕ
@@ -51,14 +35,15 @@ pub record Next : Type 0 where
   pub replay : ℕ
   pub unit : ℕ
 
+-- the parts of a ledger
 pub record Ledger : Type 0 where
   -- in order of number
-  pub endpoints : List Endpoint
+  pub endpoints : List EndpointView
   -- all that were ever published, in order
   pub messages : List Published
   pub copies : History
   -- in the order in which they were bound
-  pub flows : List Flow
+  pub flows : List FlowView
   pub log : Log
   pub replays : List Replay
   pub next : Next
@@ -77,26 +62,6 @@ empty_ledger next copy = record {
   next = next;
   now = 0;
 }
-
--- the endpoint of a name, where it is there
-abbrev pub named : List ℕ → List Endpoint → Option Endpoint
-named name endpoints = find (λ e. bytes_eq e.name name) endpoints
-
-abbrev pub is_queue : EndpointKind → Bool
-is_queue Queue = true
-is_queue TopicEndpoint = false
-
--- the queue of a name, where it is there
-abbrev pub queue_named : List ℕ → List Endpoint → Option Endpoint
-queue_named name endpoints = find (λ e. is_queue e.kind && bytes_eq e.name name) endpoints
-
--- the endpoints with this one in the place of the one of its number
-abbrev pub replaced : Endpoint → List Endpoint → List Endpoint
-replaced new endpoints = map (λ e. if e.number == new.number then new else e) endpoints
-
--- the flow of a number, where it is bound and the caller's
-abbrev pub flow_of : List Flow → List ℕ → ℕ → Option Flow
-flow_of flows caller flow = find (λ f. (f.number == flow) && bytes_eq f.caller caller) flows
 
 -- the message of a number, where it was published
 abbrev pub message_of : List Published → ℕ → Option Published

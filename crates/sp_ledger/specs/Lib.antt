@@ -1,20 +1,19 @@
-pub mod Answer
-pub mod Balance
-pub mod Bind
-pub mod Change
-pub mod Checks
-pub mod Deprovision
-pub mod Extends
+-- What has to be believed: what the spool is, what each event does to it, and what each query is answered.
+pub mod Limits
 pub mod Ledger
-pub mod One
-pub mod Outcome
-pub mod Provision
-pub mod Publish
-pub mod Pull
-pub mod Settle
-pub mod Sound
+pub mod Changes
 pub mod Step
-pub mod Subscribe
-pub mod Targets
-pub mod Unbind
-pub mod Uses
+pub mod OnEndpoints
+pub mod Publish
+pub mod OnFlows
+pub mod Events
+pub mod Tally
+pub mod Answer
+pub mod Asked
+-- What the laws say of it.
+pub mod One
+pub mod Sound
+pub mod Rising
+pub mod Told
+-- What only the proofs need: where each kind of change may be made.
+pub mod Allowed

@@ -4,8 +4,19 @@ ghost use Rattle.sp_message.specs.Size.{size_of, dest_bytes};
 use crate::payload::Payload;
 use crate::property::Properties;
 use sp_base::name::Name;
+use sp_base::number::Ranged;
 use sp_base::topic::Topic;
 use std::alloc::{AllocError, Global};
+
+/// The longest time to live, in milliseconds: 4,294,967,295 seconds.
+pub const LONGEST_TTL: u64 = 4_294_967_295_000;
+
+/// What a number counts.
+#[derive(Clone, Copy, Debug, PartialEq, Eq)]
+pub struct OfTimeToLive;
+
+/// How long a message lives in a queue: milliseconds, from 0 to 4,294,967,295,000; 0 sets no bound.
+pub type TimeToLive = Ranged<OfTimeToLive, 0, LONGEST_TTL>;
 
 /// Where a message goes.
 #[derive(Debug, Drop)]
@@ -44,8 +55,7 @@ impl Dest {
 pub struct Message {
     pub dest: Dest,
     pub payload: Payload,
-    /// The time to live in milliseconds, from 0 to 4,294,967,295,000; 0 sets no bound.
-    pub ttl: u64,
+    pub ttl: TimeToLive,
     /// Whether a dead copy may be moved to a dead-message queue.
     pub eligible: bool,
     pub properties: Properties,

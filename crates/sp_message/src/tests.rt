@@ -1,4 +1,4 @@
-use crate::message::{Dest, Message};
+use crate::message::{Dest, LONGEST_TTL, Message, TimeToLive};
 use crate::payload::Payload;
 use crate::property::{Properties, Property};
 use crate::value::{Fixed, Value};
@@ -17,7 +17,7 @@ fn hello(alloc: Global, properties: Properties) -> Result<Message, Fail> {
     Ok(Message {
         dest: Dest::Queue(Name::read(alloc, b"q1")?),
         payload: Payload::from_bytes(bytes),
-        ttl: 0,
+        ttl: TimeToLive::of(0),
         eligible: false,
         properties,
     })
@@ -50,7 +50,7 @@ fn an_empty_message_on_topic_t_has_65_bytes(rt: HostRuntime) -> Result<(), Fail>
     let message = Message {
         dest: Dest::Topic(Topic::read(alloc, b"t")?),
         payload: Payload::from_bytes(Bytes::copy_of(alloc, b"")?),
-        ttl: 0,
+        ttl: TimeToLive::of(0),
         eligible: false,
         properties: Properties::none(alloc),
     };
@@ -139,4 +139,12 @@ fn no_fixed_numbers(rt: HostRuntime) {
     for text in rows {
         assert!(rt; Fixed::read(text.as_bytes()).is_none(), "{text}");
     }
+}
+
+#[test]
+fn times_to_live_end_at_4294967295000(rt: HostRuntime) -> Result<(), Fail> {
+    let longest = TimeToLive::new(LONGEST_TTL).ok_or("no time to live")?;
+    assert_eq!(rt; longest.value(), 4_294_967_295_000);
+    assert!(rt; TimeToLive::new(4_294_967_295_001).is_none());
+    Ok(())
 }

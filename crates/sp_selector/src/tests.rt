@@ -2,7 +2,7 @@ use crate::selector::{Selector, SelectorError};
 use sp_base::bytes::Bytes;
 use sp_base::name::Name;
 use sp_base::text::Str;
-use sp_message::message::{Dest, Message};
+use sp_message::message::{Dest, Message, TimeToLive};
 use sp_message::payload::Payload;
 use sp_message::property::{Properties, Property};
 use sp_message::value::{Fixed, Value};
@@ -15,7 +15,7 @@ fn message(alloc: Global, properties: Properties) -> Result<Message, Fail> {
     Ok(Message {
         dest: Dest::Queue(Name::read(alloc, b"q1")?),
         payload: Payload::from_bytes(Bytes::from_vec(Vec::new(alloc))),
-        ttl: 0,
+        ttl: TimeToLive::of(0),
         eligible: false,
         properties,
     })

@@ -1,8 +1,10 @@
 -- The first line of an entry, as text and as read.
-use Rattle.std.proofs.Common.{◌≡◌, ◌≤◌, ◌==◌, ℕ, Bool, true, false, ◌&&◌, cond, inl, inr, ◌⊎◌, List, [], ◌∷◌, ◌++◌, length, Option, Some, None, refl, ap, subst, ◌∙◌, arith}
+use Rattle.std.proofs.Common.{◌≡◌, ◌≤◌, ◌==◌, ℕ, Bool, true, false, ◌&&◌, cond, inl, inr, ◌⊎◌, List, [], ◌∷◌, ◌++◌}
+use Rattle.std.proofs.Common.{length, Option, Some, None, refl, ap, subst, ◌∙◌, arith}
 use Rattle.std.specs.Prelude.{nat_le, nat_lt, decimal, codes, bytes_eq, option_and_then, option_map}
 use Rattle.std.specs.List.{list_all}
-use Rattle.std.proofs.lemmas.Bool.{leb-true, le-leb, le-ltb, ltb-false, eqb-true, and_parts, and_from, cond-true, cond-false}
+use Rattle.std.proofs.lemmas.Bool.{leb-true, le-leb, le-ltb, ltb-false, eqb-true, and_parts, and_from, cond-true}
+use Rattle.std.proofs.lemmas.Bool.{cond-false}
 use Rattle.std.proofs.lemmas.Fmt.{length-decimal-le}
 use Rattle.std.proofs.lemmas.List.{length-append}
 use Rattle.std.proofs.lemmas.Option.{cond_some, option_and_then_some, same_Some}
@@ -12,9 +14,11 @@ use Rattle.sp_tape.specs.declared.entry.Kind.{Kind}
 use Rattle.sp_tape.specs.declared.entry.Kind.TheVariants.{Flow, Http, Rdp, Restart}
 use Rattle.sp_tape.specs.declared.head.Head.{Head}
 use Rattle.sp_tape.specs.Cut.{cut}
-use Rattle.sp_tape.specs.Entry.{kind_word, head_text}
-use Rattle.sp_tape.specs.Head.{after_at, caller_from, head_from, head_of, kind_named, length_from, length_in, longest_body, moment_from, moment_in}
+use Rattle.sp_tape.specs.Entry.{kind_word}
+use Rattle.sp_tape.specs.Head.{after_at, caller_from, head_from, head_of, kind_named, length_from, length_in}
+use Rattle.sp_tape.specs.Head.{longest_body, moment_from, moment_in}
 use Rattle.sp_tape.specs.Numeral.{number_from}
+use Rattle.sp_tape.specs.Parse.{line_of}
 use Rattle.sp_tape.proofs.Cuts.{has_byte, is_cut, cut-found, apart, clear-append}
 use Rattle.sp_tape.proofs.Numerals.{number_is, number_from-decimal, decimal-clear}
 
@@ -24,9 +28,6 @@ pub record InRange (h : Head) : Type 0 where
   pub short : is_caller h.caller ≡ true
   pub moment : h.moment ≤ 9007199254740991
   pub body : h.len ≤ longest_body h.kind
-
-abbrev pub text_of : Head → List ℕ
-text_of h = head_text h.caller h.kind h.moment h.len
 
 abbrev made : List ℕ → Kind → ℕ → ℕ → Head
 made caller kind moment len = record { caller = caller; kind = kind; moment = moment; len = len }
@@ -39,11 +40,13 @@ record IsFields (caller kind moment len : List ℕ) (h : Head) : Type 0 where
   len_is : len ≡ decimal h.len
   range : InRange h
 
-option_map_some : {A B P : Type 0} (f : A → B) (o : Option A) (y : B) → option_map f o ≡ Some y → ((x : A) → o ≡ Some x → f x ≡ y → P) → P
+option_map_some : {A B P : Type 0} (f : A → B) (o : Option A) (y : B) → option_map f o ≡ Some y →
+    ((x : A) → o ≡ Some x → f x ≡ y → P) → P
 option_map_some f None y e then = absurd (cc)
 option_map_some {A} {B} f (Some x) y e then = then x refl (same_Some (f x) y e)
 
-either_some : {A : Type 0} (t : Bool) (x y : A) (o : Option A) → cond t (Some x) o ≡ Some y → ((t ≡ true) × (x ≡ y)) ⊎ (o ≡ Some y)
+either_some : {A : Type 0} (t : Bool) (x y : A) (o : Option A) → cond t (Some x) o ≡ Some y →
+    ((t ≡ true) × (x ≡ y)) ⊎ (o ≡ Some y)
 either_some true x y o e = inl (refl, same_Some x y e)
 either_some false x y o e = inr e
 
@@ -79,7 +82,8 @@ cond_other : (t : Bool) (x y : ℕ) → cond t None (Some x) ≡ Some y → (t �
 cond_other true x y e = absurd (cc)
 cond_other false x y e = (refl, same_Some x y e)
 
-length_is : (kind : Kind) (text : List ℕ) (n : ℕ) → length_from kind text ≡ Some n → (text ≡ decimal n) × (n ≤ longest_body kind)
+length_is : (kind : Kind) (text : List ℕ) (n : ℕ) → length_from kind text ≡ Some n →
+    (text ≡ decimal n) × (n ≤ longest_body kind)
 length_is kind text n e = option_and_then_some (length_in kind) (number_from text) n e (λ k en el.
     let parts = cond_other (nat_lt (longest_body kind) k) k n el in
     let low : k ≤ longest_body kind = ltb-false (longest_body kind) k parts.0 in
@@ -95,7 +99,8 @@ from_kind c moment len k = option_and_then (from_moment c k len) (moment_from mo
 abbrev from_caller : List ℕ → List ℕ → List ℕ → List ℕ → Option Head
 from_caller kind moment len c = option_and_then (from_kind c moment len) (kind_named kind)
 
-fields : (caller kind moment len : List ℕ) (h : Head) → head_from caller kind moment len ≡ Some h → IsFields caller kind moment len h
+fields : (caller kind moment len : List ℕ) (h : Head) → head_from caller kind moment len ≡ Some h →
+    IsFields caller kind moment len h
 fields caller kind moment len h e =
     option_and_then_some (from_caller kind moment len) (caller_from caller) h e (λ c ec e1.
     option_and_then_some (from_kind c moment len) (kind_named kind) h e1 (λ k ek e2.
@@ -139,7 +144,7 @@ abbrev of_rest : List ℕ → Option Head
 of_rest rest = option_and_then of_caller (cut 32 rest)
 
 -- a line that is read is the text of what it says
-pub head_is : (line : List ℕ) (h : Head) → head_of line ≡ Some h → (line ≡ text_of h) × InRange h
+pub head_is : (line : List ℕ) (h : Head) → head_of line ≡ Some h → (line ≡ line_of h) × InRange h
 head_is line h e =
     option_and_then_some of_rest (after_at line) h e (λ rest ea e1.
     option_and_then_some of_caller (cut 32 rest) h e1 (λ p ep e2.
@@ -152,8 +157,11 @@ head_is line h e =
     let sign = after_at_is line rest ea in
     (cc (sign, first, second, third, f.caller_is, f.kind_is, f.moment_is, f.len_is), f.range)))))
 
-name-clear : (byte : ℕ) (caller : List ℕ) → is_name_byte byte ≡ false → is_name caller ≡ true → has_byte byte caller ≡ false
-name-clear byte caller fails h = apart is_name_byte byte fails caller (and_parts (nat_le 1 (length caller) && nat_le (length caller) 200) (list_all is_name_byte caller) h).1
+name-clear : (byte : ℕ) (caller : List ℕ) → is_name_byte byte ≡ false → is_name caller ≡ true →
+    has_byte byte caller ≡ false
+name-clear byte caller fails h =
+    apart is_name_byte byte fails caller (and_parts (nat_le 1 (length caller) && nat_le (length caller) 200)
+    (list_all is_name_byte caller) h).1
 
 kind-clear_blank : (k : Kind) → has_byte 32 (kind_word k) ≡ false
 kind-clear_blank Flow = refl
@@ -180,17 +188,18 @@ body-bound Rdp = omega arith
 body-bound Restart = omega arith
 
 -- the text of a head has no line feed
-pub text-clear : (h : Head) → InRange h → has_byte 10 (text_of h) ≡ false
+pub text-clear : (h : Head) → InRange h → has_byte 10 (line_of h) ≡ false
 text-clear h r =
     let most = body-bound h.kind in
     let low : h.len ≤ longest_body h.kind = r.body in
     let late : h.moment ≤ 9007199254740991 = r.moment in
     clear-append 10 h.caller _ (name-clear 10 h.caller refl r.name)
     (clear-append 10 (kind_word h.kind) (32 ∷ (decimal h.moment ++ 32 ∷ decimal h.len)) (kind-clear_feed h.kind)
-    (clear-append 10 (decimal h.moment) (32 ∷ decimal h.len) (decimal-clear 10 h.moment refl (omega arith)) (decimal-clear 10 h.len refl (omega arith))))
+    (clear-append 10 (decimal h.moment) (32 ∷ decimal h.len) (decimal-clear 10 h.moment refl (omega arith))
+    (decimal-clear 10 h.len refl (omega arith))))
 
 -- and at most 98 bytes
-pub text-short : (h : Head) → InRange h → length (text_of h) ≤ 98
+pub text-short : (h : Head) → InRange h → length (line_of h) ≤ 98
 text-short h r =
     let most = body-bound h.kind in
     let low : h.len ≤ longest_body h.kind = r.body in
@@ -201,21 +210,27 @@ text-short h r =
     let len = length-decimal-le 7 h.len (omega arith) (omega arith) (omega arith) in
     simp length-append (omega arith)
 
-head_from-text : (h : Head) → InRange h → head_from h.caller (kind_word h.kind) (decimal h.moment) (decimal h.len) ≡ Some h
+head_from-text : (h : Head) → InRange h → head_from h.caller (kind_word h.kind) (decimal h.moment) (decimal h.len)
+    ≡ Some h
 head_from-text h r =
     let most = body-bound h.kind in
     let low : h.len ≤ longest_body h.kind = r.body in
     let late : h.moment ≤ 9007199254740991 = r.moment in
-    let caller = cond-true (is_name h.caller && is_caller h.caller) (Some h.caller) None (and_from (is_name h.caller) (is_caller h.caller) r.name r.short) in
-    let moment : moment_from (decimal h.moment) ≡ Some h.moment = ap (option_and_then moment_in) (number_from-decimal h.moment (omega arith)) ∙ cond-true (nat_le h.moment 9007199254740991) (Some h.moment) None (le-leb h.moment 9007199254740991 late) in
-    let len : length_from h.kind (decimal h.len) ≡ Some h.len = ap (option_and_then (length_in h.kind)) (number_from-decimal h.len (omega arith)) ∙ cond-false (nat_lt (longest_body h.kind) h.len) None (Some h.len) (le-ltb (longest_body h.kind) h.len low) in
+    let caller = cond-true (is_name h.caller && is_caller h.caller) (Some h.caller) None
+    (and_from (is_name h.caller) (is_caller h.caller) r.name r.short) in
+    let moment : moment_from (decimal h.moment) ≡ Some h.moment =
+    ap (option_and_then moment_in) (number_from-decimal h.moment (omega arith)) ∙
+    cond-true (nat_le h.moment 9007199254740991) (Some h.moment) None (le-leb h.moment 9007199254740991 late) in
+    let len : length_from h.kind (decimal h.len) ≡ Some h.len = ap (option_and_then (length_in h.kind))
+    (number_from-decimal h.len (omega arith)) ∙ cond-false (nat_lt (longest_body h.kind) h.len) None (Some h.len)
+    (le-ltb (longest_body h.kind) h.len low) in
     ap (option_and_then (from_caller (kind_word h.kind) (decimal h.moment) (decimal h.len))) caller
     ∙ (ap (option_and_then (from_kind h.caller (decimal h.moment) (decimal h.len))) (kind_named-word h.kind)
     ∙ (ap (option_and_then (from_moment h.caller h.kind (decimal h.len))) moment
     ∙ ap (option_map (made h.caller h.kind h.moment)) len))
 
 -- the text of a head is read as that head
-pub head_of-text : (h : Head) → InRange h → head_of (text_of h) ≡ Some h
+pub head_of-text : (h : Head) → InRange h → head_of (line_of h) ≡ Some h
 head_of-text h r =
     let late : h.moment ≤ 9007199254740991 = r.moment in
     let after_moment = 32 ∷ decimal h.len in
@@ -223,5 +238,6 @@ head_of-text h r =
     let after_caller = kind_word h.kind ++ 32 ∷ (decimal h.moment ++ 32 ∷ decimal h.len) in
     ap (option_and_then of_caller) (cut-found 32 h.caller after_caller (name-clear 32 h.caller refl r.name))
     ∙ (ap (option_and_then (of_kind h.caller)) (cut-found 32 (kind_word h.kind) after_kind (kind-clear_blank h.kind))
-    ∙ (ap (option_and_then (of_moment h.caller (kind_word h.kind))) (cut-found 32 (decimal h.moment) (decimal h.len) (decimal-clear 32 h.moment refl (omega arith)))
+    ∙ (ap (option_and_then (of_moment h.caller (kind_word h.kind))) (cut-found 32 (decimal h.moment) (decimal h.len)
+    (decimal-clear 32 h.moment refl (omega arith)))
     ∙ head_from-text h r))

@@ -1,36 +1,45 @@
 -- What a run's answers told holds at its end.
-use Rattle.std.proofs.Common.{◌≡◌, ℕ, List, [], ◌∷◌, None, true, inl, inr, refl, sym, subst}
-use Rattle.std.specs.Prelude.{All, ⊤}
-use Rattle.std.proofs.lemmas.List.Elements.{All-nil, All-cons, All-weaker, All-head}
+use Rattle.std.proofs.Common.{◌≡◌, ℕ, List, [], ◌∷◌, ◌++◌, None, Option, Some, Result, Ok, Err, true, inl, inr, refl, sym, ap, subst, ◌∙◌}
+use Rattle.std.specs.Prelude.{◌==◌, All, IsTrue, ⊤, flat_map, is_some}
+use Rattle.std.proofs.lemmas.Bool.{eqb-true}
+use Rattle.std.proofs.lemmas.List.Elements.{All-nil, All-cons, All-append, All-weaker, All-head}
+use Rattle.sp_base.specs.Name.{is_caller}
+use Rattle.sp_base.specs.declared.refusal.Refusal.{Refusal}
+use Rattle.sp_copies.specs.History.{History, is_closed, is_made}
+use Rattle.sp_copies.specs.Sound.{HasOneFate, IsSoundHistory}
+use Rattle.sp_copies.specs.declared.closed.ClosedCopy.{ClosedCopy}
+use Rattle.sp_copies.specs.declared.closed.Closing.{Closing}
+use Rattle.sp_copies.specs.declared.closed.Fate.{Fate}
+use Rattle.sp_copies.specs.declared.closed.Fate.TheVariants as fates
 use Rattle.sp_event.specs.declared.answer.Answered.{Answered}
 use Rattle.sp_event.specs.declared.answer.Answered.TheVariants.{Gave, Refused, Memory, Disk, Full}
-use Rattle.sp_event.specs.declared.answer.Delivery.{Delivery}
-use Rattle.sp_event.specs.declared.answer.PublishedCopy.{PublishedCopy}
+use Rattle.sp_event.specs.declared.answer.CopyFate.{CopyFate}
 use Rattle.sp_event.specs.declared.answer.Reply.{Reply}
-use Rattle.sp_event.specs.declared.answer.Reply.TheVariants as replies
 use Rattle.sp_event.specs.declared.request.Ask.{Ask}
 use Rattle.sp_event.specs.declared.request.Ask.TheVariants.{Do, Look}
 use Rattle.sp_event.specs.declared.request.Event.{Event}
-use Rattle.sp_copies.specs.History.{is_made}
-use Rattle.sp_copies.specs.Sound.{HasOneFate}
-use Rattle.sp_ledger.specs.Balance.{TellsBalanced}
-use Rattle.sp_ledger.specs.Extends.{Extends, FateHolds, IsTold}
+use Rattle.sp_ledger.specs.Asked.{Gives, Answers}
+use Rattle.sp_ledger.specs.Events.{outcome}
 use Rattle.sp_ledger.specs.Ledger.{Ledger}
-use Rattle.sp_ledger.specs.Outcome.{Outcome, refused, idle, accepted}
-use Rattle.sp_ledger.specs.Sound.{IsSound}
-use Rattle.sp_ledger.specs.Step.{unit_step}
+use Rattle.sp_ledger.specs.Sound.{IsLedger, IsSound}
+use Rattle.sp_ledger.specs.Step.{Outcome, refused, idle, accepted}
+use Rattle.sp_ledger.specs.Tally.{TellsBalanced}
+use Rattle.sp_ledger.specs.Told.{Extends, FateHolds, IsTold, TellsFates, told_fates}
+use Rattle.sp_ledger.proofs.Answered.{accepted_balanced, answer_balanced, answer_tells, idle_balanced}
+use Rattle.sp_ledger.proofs.CopiesKept.{kept_of}
 use Rattle.sp_ledger.proofs.Fates.{one_fate}
-use Rattle.sp_ledger.proofs.Growth.{Extends-refl, Extends-trans, step_extends, step_tells, still_told, step_balanced, idle_tells}
-use Rattle.sp_ledger.proofs.Soundness.{step_sound}
-use Rattle.sp_ledger.proofs.Tallies.{answer_balanced, answer_tells}
-use Rattle.sp_flowline.specs.Request as reading
-use Rattle.sp_flowline.specs.Request.{Reading}
+use Rattle.sp_ledger.proofs.Growth.{Extends-refl, Extends-trans, outcome_extends, still_told}
+use Rattle.sp_ledger.proofs.Listed.{All-any}
+use Rattle.sp_ledger.proofs.Steps.{outcome_sound}
+use Rattle.sp_ledger.proofs.Tallies.{closed-closing}
+use Rattle.sp_ledger.proofs.Telling.{accepted_tells, idle_tells, told_so}
 use Rattle.sp_tape.specs.declared.entry.Entry.{Entry}
 use Rattle.sp_tape.specs.declared.entry.Kind.{Kind}
 use Rattle.sp_tape.specs.declared.entry.Kind.TheVariants.{Flow, Http, Rdp, Restart}
-use Rattle.sp_tape.specs.Acts.{Gives, Answers, AnswersReading, ActsAs, Acts}
-use Rattle.sp_tape.specs.Fates.{ReplyHolds, AnswerHolds}
-use Rattle.sp_tape.specs.Run.{Turn, IsRun, ledger_after}
+use Rattle.sp_tape.specs.Acts.{Acts, ActsAs, AnswersReading, Told}
+use Rattle.sp_tape.specs.Entry.{IsEntry}
+use Rattle.sp_tape.specs.Fates.{AnswerHolds, CopyHolds, ReplyHolds, is_of_made}
+use Rattle.sp_tape.specs.Run.{Turn, IsRun, answers_of, ledger_after, ledger_left}
 
 -- what is known of an answer, on the ledger after it and on each later one
 abbrev pub Tells : Ledger → Answered → Type 0
@@ -47,106 +56,178 @@ still_tells L M x Memory h = tt
 still_tells L M x Disk h = tt
 still_tells L M x (Full len need most) h = tt
 
--- a later ledger, that is sound, and what was told on the way
+-- a later ledger, and what was told on the way
 pub record Goes (L M : Ledger) (a : Answered) : Type 0 where
-  pub sound : IsSound M
+  pub ledger : IsLedger M
   pub extends : Extends L M
   pub tells : Tells M a
 
-stays : (L M : Ledger) (a : Answered) → IsSound L → M ≡ L → Tells M a → Goes L M a
+stays : (L M : Ledger) (a : Answered) → IsLedger L → M ≡ L → Tells M a → Goes L M a
 stays L M a s e t = record {
-  sound = subst IsSound (sym e) s;
+  ledger = subst IsLedger (sym e) s;
   extends = subst (Extends L) (sym e) (Extends-refl L);
   tells = t;
 }
 
-module _ (L M : Ledger) (s : IsSound L) (moment : ℕ) (caller : List ℕ) where
-  gives : (event : Event) (reply : Reply) (o : Outcome) → unit_step moment caller (event ∷ []) L ≡ o → Gives o L reply M → Goes L M (Gave reply)
+module _ (L M : Ledger) (s : IsLedger L) (moment : ℕ) (caller : List ℕ) (short : is_caller caller ≡ true) where
+  gives : (event : Event) (reply : Reply) (o : Outcome) → outcome moment caller event L ≡ o → Gives o L reply M →
+      Goes L M (Gave reply)
   gives event reply (refused refusal) e h = absurd h
   gives event reply (idle told) e (is, same) =
-      let done : unit_step moment caller (event ∷ []) L ≡ idle (reply ∷ []) = rw (← is) e in
-      let tells = All-head (λ (r : Reply). IsTold L.copies r × TellsBalanced r) reply [] (idle_tells L moment (reply ∷ []) caller (event ∷ []) done) in
-      stays L M (Gave reply) s same (subst (λ (N : Ledger). IsTold N.copies reply) (sym same) tells.0, tells.1)
+      let done : outcome moment caller event L ≡ idle (reply ∷ []) = e ∙ ap idle is in
+      let tells = All-head (TellsFates L.copies) reply []
+      (idle_tells L s.sound moment caller event (reply ∷ []) done) in
+      let balanced = All-head TellsBalanced reply [] (idle_balanced L moment caller event (reply ∷ []) done) in
+      stays L M (Gave reply) s same
+      (subst (λ (N : Ledger). IsTold N.copies reply) (sym same) (told_so L.copies reply tells), balanced)
   gives event reply (accepted N told) e (is, same) =
-      let done : unit_step moment caller (event ∷ []) L ≡ accepted M (reply ∷ []) = rw (same, ← is) e in
+      let done : outcome moment caller event L ≡ accepted M (reply ∷ []) =
+      e ∙ (ap (λ (rs : List Reply). accepted N rs) is ∙ ap (λ (K : Ledger). accepted K (reply ∷ [])) (sym same)) in
+      let tells = All-head (TellsFates M.copies) reply []
+      (accepted_tells L s.sound moment caller event (reply ∷ []) M done) in
       record {
-        sound = step_sound L s moment caller (event ∷ []) M (reply ∷ []) done;
-        extends = step_extends L moment caller (event ∷ []) M (reply ∷ []) done;
-        tells = (All-head (IsTold M.copies) reply [] (step_tells L s moment caller (event ∷ []) M (reply ∷ []) done), All-head TellsBalanced reply [] (step_balanced L moment caller (event ∷ []) M (reply ∷ []) done));
+        ledger = outcome_sound L s moment caller short event M (reply ∷ []) done;
+        extends = outcome_extends L moment caller event M (reply ∷ []) done;
+        tells = (
+          told_so M.copies reply tells,
+          All-head TellsBalanced reply [] (accepted_balanced L moment caller event (reply ∷ []) M done),
+        );
       }
 
   answers : (ask : Ask) (a : Answered) → Answers moment caller ask L a M → Goes L M a
-  answers (Do event) (Gave reply) h = gives event reply (unit_step moment caller (event ∷ []) L) refl h
+  answers (Do event) (Gave reply) h = gives event reply (outcome moment caller event L) refl h
   answers (Do event) (Refused refusal index) h = stays L M (Refused refusal index) s h.2 tt
-  answers (Do event) Memory h = stays L M Memory s h tt
+  answers (Do event) Memory h = absurd h
   answers (Do event) Disk h = absurd h
   answers (Do event) (Full len need most) h = absurd h
-  answers (Look query) (Gave reply) h = stays L M (Gave reply) s h.1 (subst (λ (N : Ledger). IsTold N.copies reply) (sym h.1) (answer_tells moment caller query L reply h.0), answer_balanced moment caller query L reply h.0)
+  answers (Look query) (Gave reply) h =
+      stays L M (Gave reply) s h.1 (
+        subst (λ (N : Ledger). IsTold N.copies reply) (sym h.1)
+            (told_so L.copies reply (answer_tells L moment caller query reply h.0)),
+        answer_balanced L s.sound moment caller query reply h.0,
+      )
   answers (Look query) (Refused refusal index) h = stays L M (Refused refusal index) s h.2 tt
-  answers (Look query) Memory h = stays L M Memory s h tt
+  answers (Look query) Memory h = absurd h
   answers (Look query) Disk h = absurd h
   answers (Look query) (Full len need most) h = absurd h
 
-  reads : (r : Reading) (a : Answered) → AnswersReading moment caller r L a M → Goes L M a
-  reads (reading.request ask) a h = answers ask a h
-  reads (reading.refused refusal) a h = subst (Goes L M) (sym h.0) (stays L M (Refused refusal None) s h.1 tt)
+  lacks : (a : Answered) → a ≡ Memory → M ≡ L → Goes L M a
+  lacks a is same = subst (Goes L M) (sym is) (stays L M Memory s same tt)
 
-acts_as : (L M : Ledger) → IsSound L → (e : Entry) (a : Answered) (k : Kind) → ActsAs k e L a M → Goes L M a
-acts_as L M s e a Flow h = reads L M s e.moment e.caller h.0 a h.2
-acts_as L M s e a Http h = subst (Goes L M) (sym h.0) (stays L M _ s h.1 tt)
-acts_as L M s e a Rdp h = subst (Goes L M) (sym h.0) (stays L M _ s h.1 tt)
-acts_as L M s e a Restart h = subst (Goes L M) (sym h.0) (stays L M _ s h.1 tt)
+  refuses : (refusal : Refusal) (a : Answered) → a ≡ Refused refusal None → M ≡ L → Goes L M a
+  refuses refusal a is same = subst (Goes L M) (sym is) (stays L M (Refused refusal None) s same tt)
 
-acts : (L M : Ledger) → IsSound L → (e : Entry) (a : Answered) → Acts e L a M → Goes L M a
-acts L M s e a h = elim h [ inl k ↦ acts_as L M s e a e.kind k | inr m ↦ subst (Goes L M) (sym m.0) (stays L M Memory s m.1 tt) ]
+abbrev told_of : Answered → Ledger → Told
+told_of a M = record { answered = a; after = M }
+
+module _ (L M : Ledger) (s : IsLedger L) (e : Entry) (is : IsEntry e) (a : Answered) where
+  reads : (r : Result Ask Refusal) → AnswersReading e.moment e.caller r L (told_of a M) → Goes L M a
+  reads (Ok ask) h = answers L M s e.moment e.caller is.short ask a h
+  reads (Err refusal) h = refuses L M s e.moment e.caller is.short refusal a h.0 h.1
+
+  acts_as : (k : Kind) → ActsAs k e L (told_of a M) → Goes L M a
+  acts_as Flow h = elim h [
+    | inl read ↦ reads read.0 read.2
+    | inr lack ↦ lacks L M s e.moment e.caller is.short a lack.0 lack.1
+  ]
+  acts_as Http h = refuses L M s e.moment e.caller is.short _ a h.0 h.1
+  acts_as Rdp h = refuses L M s e.moment e.caller is.short _ a h.0 h.1
+  acts_as Restart h = refuses L M s e.moment e.caller is.short _ a h.0 h.1
+
+-- what the answers of one turn leave
+record Turns (L : Ledger) (told : List Told) : Type 0 where
+  ledger : IsLedger (ledger_left L told)
+  extends : Extends L (ledger_left L told)
+  tells : All (λ (t : Told). Tells (ledger_left L told) t.answered) told
+  each : All (λ (t : Told). IsLedger t.after) told
+
+turns : (L : Ledger) → IsLedger L → (e : Entry) → IsEntry e → (told : List Told) → Acts e L told → Turns L told
+turns L s e is told (t, one, acts) =
+    let goes = acts_as L t.after s e is t.answered e.kind acts in
+    subst (Turns L) (sym one) (record {
+      ledger = goes.ledger;
+      extends = goes.extends;
+      tells = All-cons (λ (u : Told). Tells t.after u.answered) t [] goes.tells
+          (All-nil (λ (u : Told). Tells t.after u.answered));
+      each = All-cons (λ (u : Told). IsLedger u.after) t [] goes.ledger (All-nil (λ (u : Told). IsLedger u.after));
+    })
 
 -- what a whole run leaves
 pub record Went (L : Ledger) (ts : List Turn) : Type 0 where
-  pub sound : IsSound (ledger_after L ts)
+  pub ledger : IsLedger (ledger_after L ts)
   pub extends : Extends L (ledger_after L ts)
-  pub tells : All (λ (t : Turn). Tells (ledger_after L ts) t.answered) ts
+  pub tells : All (λ (t : Told). Tells (ledger_after L ts) t.answered) (answers_of ts)
+  pub each : All (λ (t : Told). IsLedger t.after) (answers_of ts)
 
-pub went : (L : Ledger) → IsSound L → (ts : List Turn) → IsRun L ts → Went L ts
-went L s [] r = record { sound = s; extends = Extends-refl L; tells = All-nil (λ (t : Turn). Tells L t.answered) }
+pub went : (L : Ledger) → IsLedger L → (ts : List Turn) → IsRun L ts → Went L ts
+went L s [] r = record {
+  ledger = s;
+  extends = Extends-refl L;
+  tells = All-nil (λ (t : Told). Tells L t.answered);
+  each = All-nil (λ (t : Told). IsLedger t.after);
+}
 went L s (t ∷ ts) r =
-    let here = acts L t.after s t.entry t.answered r.0.1 in
-    let rest = went t.after here.sound ts r.1 in
+    let N = ledger_left L t.told in
+    let M = ledger_after N ts in
+    let here = turns L s t.entry r.0.0 t.told r.0.1 in
+    let rest = went N here.ledger ts r.1 in
     record {
-      sound = rest.sound;
-      extends = Extends-trans L t.after (ledger_after t.after ts) here.extends rest.extends;
-      tells = All-cons (λ (u : Turn). Tells (ledger_after t.after ts) u.answered) t ts (still_tells t.after (ledger_after t.after ts) rest.extends t.answered here.tells) rest.tells;
+      ledger = rest.ledger;
+      extends = Extends-trans L N M here.extends rest.extends;
+      tells = All-append (λ (u : Told). Tells M u.answered) t.told (answers_of ts)
+          (All-weaker (λ (u : Told). Tells N u.answered) (λ (u : Told). Tells M u.answered)
+          (λ u h. still_tells N M rest.extends u.answered h) t.told here.tells)
+          rest.tells;
+      each = All-append (λ (u : Told). IsLedger u.after) t.told (answers_of ts) here.each rest.each;
     }
 
+-- a copy of any fate but never was made
+
+closed_is_made : (H : History) → IsSoundHistory H → (copy : ℕ) → is_closed H.closed copy ≡ true →
+    is_made H.made copy ≡ true
+closed_is_made H s copy h =
+    All-any (λ (x : ClosedCopy). IsTrue (is_made H.made x.copy)) (is_made H.made copy ≡ true)
+    (λ x. x.copy == copy) H.closed s.closed_made
+    (λ x is test. subst (λ k. is_made H.made k ≡ true) (eqb-true _ _ test) is) h
+
+module _ (H : History) (s : IsSoundHistory H) (copy : ℕ) where
+  made_where_closed : is_closed H.closed copy ≡ true → is_made H.made copy ≡ true
+  made_where_closed = closed_is_made H s copy
+
+  made_by_fate : (fate : Fate) → FateHolds H copy fate → is_of_made fate ≡ true → is_made H.made copy ≡ true
+  made_by_fate fates.Never h of = absurd (cc)
+  made_by_fate fates.Spooled h of = h
+  made_by_fate fates.Accepted h of = made_where_closed (closed-closing H.closed copy ∙ ap (λ (o : Option Closing). is_some o) h)
+  made_by_fate (fates.Moved to) h of = made_where_closed (closed-closing H.closed copy ∙ ap (λ (o : Option Closing). is_some o) h)
+  made_by_fate (fates.Discarded cause) h of = made_where_closed (closed-closing H.closed copy ∙ ap (λ (o : Option Closing). is_some o) h)
+  made_by_fate fates.Earlier h of = made_where_closed h
+
 reply_holds : (M : Ledger) → IsSound M → (r : Reply) → IsTold M.copies r → TellsBalanced r → ReplyHolds M r
-reply_holds M s (replies.Provision endpoint n) told balanced = tt
-reply_holds M s (replies.Deprovision endpoint) told balanced = tt
-reply_holds M s (replies.Change endpoint) told balanced = tt
-reply_holds M s (replies.Subscribe endpoint) told balanced = tt
-reply_holds M s (replies.Unsubscribe endpoint) told balanced = tt
-reply_holds M s (replies.Publish message copies) told balanced = All-weaker (λ (c : PublishedCopy). (is_made M.copies.made c.copy ≡ true) × FateHolds M.copies c.copy c.fate) (λ (c : PublishedCopy). HasOneFate M.copies c.copy) (λ c is. one_fate M.copies s.copies c.copy is.0) copies told
-reply_holds M s (replies.Bind endpoint flow discarded) told balanced = tt
-reply_holds M s (replies.Unbind flow closed returned) told balanced = tt
-reply_holds M s (replies.Pull flow deliveries) told balanced = All-weaker (λ (d : Delivery). is_made M.copies.made d.copy ≡ true) (λ (d : Delivery). HasOneFate M.copies d.copy) (λ d is. one_fate M.copies s.copies d.copy is) deliveries told
-reply_holds M s (replies.Settle copy fate) told balanced = tt
-reply_holds M s (replies.Tally tally) told balanced = balanced
-reply_holds M s (replies.Copy copy fate details) told balanced = tt
+reply_holds M s r told balanced =
+    let H = M.copies in
+    let sound = (kept_of M s).history in (
+      All-weaker (λ (t : CopyFate). FateHolds H t.copy t.fate) (CopyHolds M)
+          (λ t h. (h, λ of. one_fate H sound t.copy (made_by_fate H sound t.copy t.fate h of))) (told_fates r) told,
+      balanced,
+    )
 
 answer_holds : (M : Ledger) → IsSound M → (a : Answered) → Tells M a → AnswerHolds M a
-answer_holds M s (Gave reply) h = (reply_holds M s reply h.0 h.1, h.0)
+answer_holds M s (Gave reply) h = reply_holds M s reply h.0 h.1
 answer_holds M s (Refused refusal index) h = tt
 answer_holds M s Memory h = tt
 answer_holds M s Disk h = tt
 answer_holds M s (Full len need most) h = tt
 
--- each copy that was told of has one fate at the end, and each tally adds up
-pub run_holds : (L : Ledger) → IsSound L → (ts : List Turn) → IsRun L ts → All (λ (t : Turn). AnswerHolds (ledger_after L ts) t.answered) ts
+-- what was told of each copy holds at the end, and each tally adds up
+pub run_holds : (L : Ledger) → IsLedger L → (ts : List Turn) → IsRun L ts →
+    All (λ (t : Told). AnswerHolds (ledger_after L ts) t.answered) (answers_of ts)
 run_holds L s ts r =
     let w = went L s ts r in
-    All-weaker (λ (t : Turn). Tells (ledger_after L ts) t.answered) (λ (t : Turn). AnswerHolds (ledger_after L ts) t.answered) (λ t h. answer_holds (ledger_after L ts) w.sound t.answered h) ts w.tells
+    let M = ledger_after L ts in
+    All-weaker (λ (t : Told). Tells M t.answered) (λ (t : Told). AnswerHolds M t.answered)
+    (λ t h. answer_holds M w.ledger.sound t.answered h) (answers_of ts) w.tells
 
--- every ledger of a run is sound
-pub each_sound : (L : Ledger) → IsSound L → (ts : List Turn) → IsRun L ts → All (λ (t : Turn). IsSound t.after) ts
-each_sound L s [] r = All-nil (λ (t : Turn). IsSound t.after)
-each_sound L s (t ∷ ts) r =
-    let here = acts L t.after s t.entry t.answered r.0.1 in
-    All-cons (λ (u : Turn). IsSound u.after) t ts here.sound (each_sound t.after here.sound ts r.1)
+-- every ledger of a run is what a ledger is between two units
+pub each_ledger : (L : Ledger) → IsLedger L → (ts : List Turn) → IsRun L ts →
+    All (λ (t : Told). IsLedger t.after) (answers_of ts)
+each_ledger L s ts r = (went L s ts r).each

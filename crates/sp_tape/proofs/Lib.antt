@@ -1,12 +1,12 @@
-pub mod ActsLemmas
+pub mod Bodies
 pub mod Cuts
 pub mod Entries
 pub mod Fronts
-pub mod GivesLemmas
 pub mod Heads
 pub mod Holds
 pub mod Known
 pub mod Numerals
 pub mod Pieces
+pub mod Served
 pub mod SoFar
 pub mod WholeTapes

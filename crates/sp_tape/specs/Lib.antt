@@ -3,11 +3,13 @@ pub mod Complete
 pub mod Cut
 pub mod Entry
 pub mod Fates
+pub mod Gathering
 pub mod Head
 pub mod Numeral
 pub mod Parse
 pub mod Reading
 pub mod Run
 pub mod Runs
+pub mod Serves
 pub mod Status
 pub mod Unfinished

@@ -1,10 +1,12 @@
 //! Tapes of requests: their grammar, and a run that answers one entry by entry.
 #![tactic(auto)]
 
+mod body;
 pub mod entry;
 #[cfg(test)]
 mod flow_tests;
 mod head;
+pub mod laws;
 mod numeral;
 pub mod parse;
 pub mod reader;

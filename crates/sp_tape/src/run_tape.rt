@@ -1,8 +1,8 @@
-ghost use Rattle.std.specs.Prelude.{◌≡◌, ◌≤◌, ◌↔◌, ℕ, List, true, false};
+ghost use Rattle.std.specs.Prelude.{◌≡◌, ◌≢◌, ◌↔◌, ◌⊎◌, ℕ, List, true, false};
 ghost use Rattle.sp_base.specs.Causes.{Rose};
 ghost use Rattle.sp_core.specs.Stands.{Stands};
-ghost use Rattle.sp_tape.specs.Run.{start};
-ghost use Rattle.sp_tape.specs.Complete.{IsTapeOf, Completes};
+ghost use Rattle.sp_ledger.specs.Asked.{first_ledger};
+ghost use Rattle.sp_tape.specs.Complete.{IsTapeOf};
 ghost use Rattle.sp_tape.specs.Runs.{Runs, is_run};
 
 use crate::entry::Entry;
@@ -10,7 +10,7 @@ use crate::reader::{Next, next_entry};
 use crate::status::Status;
 use crate::turn::{Served, serve};
 use sp_base::io::{Sink, Source};
-use sp_core::rows::Numbers;
+use sp_core::numbers::Numbers;
 use sp_core::state::Core;
 use std::alloc::Global;
 
@@ -29,12 +29,14 @@ pub fn run<S: Source, K: Sink>(
     ensures tape { Runs (S.left source.old) (S.left source.new)
         (K.written sink.old) (K.written sink.new) result }
     ensures read_fault { result ≡ Status.ReadFault → Rose (S.faults source.old) (S.faults source.new) }
+    ensures no_read_fault { result ≢ Status.ReadFault → S.faults source.new ≡ S.faults source.old }
     ensures write_fault { result ≡ Status.WriteFault → Rose (K.faults sink.old) (K.faults sink.new) }
+    ensures no_write_fault { result ≢ Status.WriteFault → K.faults sink.new ≡ K.faults sink.old }
 
-    // Over a tape of whole entries, where neither stream failed, all is answered and written.
+    // Over a tape of whole entries, where neither stream failed, all is done but for want of memory.
     ensures complete { (entries : List Entry) → IsTapeOf (S.left source.old) entries → is_run words.now ≡ true →
         (Rose (S.faults source.old) (S.faults source.new) → ⊥) → (Rose (K.faults sink.old) (K.faults sink.new) → ⊥) →
-        Completes entries (K.written sink.old) (K.written sink.new) result }
+        (result ≡ Status.Done) ⊎ (result ≡ Status.Memory) }
 {
     run_words(words, source, sink, alloc)
 }
@@ -49,7 +51,9 @@ fn run_words<S: Source, K: Sink>(
     ensures tape { Runs (S.left source.old) (S.left source.new)
         (K.written sink.old) (K.written sink.new) result }
     ensures read_fault { result ≡ Status.ReadFault → Rose (S.faults source.old) (S.faults source.new) }
+    ensures no_read_fault { result ≢ Status.ReadFault → S.faults source.new ≡ S.faults source.old }
     ensures write_fault { result ≡ Status.WriteFault → Rose (K.faults sink.old) (K.faults sink.new) }
+    ensures no_write_fault { result ≢ Status.WriteFault → K.faults sink.new ≡ K.faults sink.old }
 {
     if !is_run(words) {
         return Status::Usage;
@@ -75,12 +79,14 @@ fn run_tape<S: Source, K: Sink>(
     source: &mut S,
     sink: &mut K,
 ) -> Status
-    requires { Stands core.old start }
+    requires { Stands core.old first_ledger }
     ensures tape { Runs (S.left source.old) (S.left source.new)
         (K.written sink.old) (K.written sink.new) result }
     ensures no_usage { result ≡ Status.Usage → ⊥ }
     ensures read_fault { result ≡ Status.ReadFault → Rose (S.faults source.old) (S.faults source.new) }
+    ensures no_read_fault { result ≢ Status.ReadFault → S.faults source.new ≡ S.faults source.old }
     ensures write_fault { result ≡ Status.WriteFault → Rose (K.faults sink.old) (K.faults sink.new) }
+    ensures no_write_fault { result ≢ Status.WriteFault → K.faults sink.new ≡ K.faults sink.old }
 {
     let mut waiting = Vec::new(alloc);
     let mut offset = 0;

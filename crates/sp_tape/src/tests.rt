@@ -1,24 +1,55 @@
-use crate::parse::{Parsed, parse};
 use crate::run_tape::run;
 use crate::status::Status;
-use crate::turn::{Served, serve};
 use sp_base::memory_io::{MemorySink, MemorySource};
-use sp_core::rows::Numbers;
-use sp_core::state::Core;
 use std::alloc::{AllocError, Global};
 use std::test::Fail;
 
-// Provision, publish and tally of a queue.
-const TAPE: &[u8] =
-    b"@ann flow 0 34\n{\"op\":\"provision\",\"endpoint\":\"q1\"}\n@ann flow 0 47\n{\"op\":\"publish\",\"queue\":\"q1\",\"payload\":\"hello\"}\n@ann flow 0 30\n{\"op\":\"tally\",\"endpoint\":\"q1\"}\n";
+// A queue is provisioned, a message is published, and both are counted.
+const SMALLEST: [(&str, &str); 3] = [
+    (
+        r#"{"op":"provision","endpoint":"q1"}"#,
+        r#"{"endpoint":"q1","number":1,"ok":"provision","unit":1}"#,
+    ),
+    (
+        r#"{"op":"publish","queue":"q1","payload":"hello"}"#,
+        r#"{"copies":[{"copy":1,"endpoint":"q1","fate":"spooled"}],"message":1,"ok":"publish","unit":2}"#,
+    ),
+    (
+        r#"{"op":"tally","endpoint":"q1"}"#,
+        r#"{"accepted":0,"causes":{},"discarded":0,"made":1,"moved":0,"ok":"tally","spooled":1,"unit":2,"used":71}"#,
+    ),
+];
 
-const PROVISIONED: &[u8] = b"{\"endpoint\":\"q1\",\"number\":1,\"ok\":\"provision\",\"unit\":1}\n";
+// The offset behind each of those entries.
+const ENDS: [usize; 3] = [50, 113, 159];
 
-const OUTPUT: &[u8] =
-    b"{\"endpoint\":\"q1\",\"number\":1,\"ok\":\"provision\",\"unit\":1}\n{\"copies\":[{\"copy\":1,\"endpoint\":\"q1\",\"fate\":\"spooled\"}],\"message\":1,\"ok\":\"publish\",\"unit\":2}\n{\"accepted\":0,\"causes\":{},\"discarded\":0,\"made\":1,\"moved\":0,\"ok\":\"tally\",\"spooled\":1,\"unit\":2,\"used\":71}\n";
+// A tape, and the lines that answer it.
+#[derive(Drop)]
+pub struct Exchange {
+    pub tape: Vec<u8>,
+    pub lines: Vec<u8>,
+}
 
-// The offsets of the entries of that tape, and its length.
-const ENTRIES: [usize; 4] = [0, 50, 113, 159];
+// The tape of requests of ann at moment 0, with the length of each counted, and their replies.
+pub fn exchanged(alloc: Global, turns: &[(&str, &str)]) -> Result<Exchange, AllocError> {
+    let mut tape = Vec::new(alloc);
+    let mut lines = Vec::new(alloc);
+    for (request, reply) in turns {
+        let len = request.len();
+        let entry = format!(in alloc; "@ann flow 0 {len}\n{request}\n")?;
+        tape.extend_from_slice(entry.as_bytes())?;
+        lines.extend_from_slice(reply.as_bytes())?;
+        lines.push(b'\n')?;
+    }
+    Ok(Exchange { tape, lines })
+}
+
+// Whether each request is answered by its reply, and the run is done.
+pub fn is_answered(alloc: Global, turns: &[(&str, &str)]) -> Result<bool, AllocError> {
+    let told = exchanged(alloc, turns)?;
+    let ran = ran(alloc, "run", told.tape.as_slice(), 4096, &[], &[])?;
+    Ok(ran.status == Status::Done && ran.output.as_slice() == told.lines.as_slice())
+}
 
 #[derive(Drop)]
 pub struct Ended {
@@ -71,10 +102,11 @@ fn only_run_is_a_form(rt: HostRuntime) -> Result<(), Fail> {
 #[test]
 fn the_output_is_the_same_in_any_pieces(rt: HostRuntime) -> Result<(), Fail> {
     let alloc = rt.alloc();
+    let told = exchanged(alloc, &SMALLEST)?;
     for piece in [1, 7, 4096] {
-        let ran = ran(alloc, "run", TAPE, piece, &[], &[])?;
+        let ran = ran(alloc, "run", told.tape.as_slice(), piece, &[], &[])?;
         assert_eq!(rt; ran.status, Status::Done);
-        assert!(rt; ran.output.as_slice() == OUTPUT);
+        assert!(rt; ran.output.as_slice() == told.lines.as_slice());
     }
     Ok(())
 }
@@ -82,29 +114,19 @@ fn the_output_is_the_same_in_any_pieces(rt: HostRuntime) -> Result<(), Fail> {
 #[test]
 fn a_tape_that_is_cut_is_answered_up_to_there(rt: HostRuntime) -> Result<(), Fail> {
     let alloc = rt.alloc();
-    for cut in 0..TAPE.len() {
-        let ran = ran(alloc, "run", &TAPE[..cut], 4096, &[], &[])?;
-        let mut before = 0u64;
-        let mut offset = 0;
-        for start in ENTRIES {
-            if start <= cut {
-                offset = start;
-                before = before.saturating_add(1);
-            }
-        }
+    let whole = exchanged(alloc, &SMALLEST)?;
+    for cut in 0..whole.tape.len() {
+        let ran = ran(alloc, "run", &whole.tape[..cut], 4096, &[], &[])?;
+        let before = ENDS.iter().filter(|end| **end <= cut).count();
+        let offset = if before == 0 { 0 } else { ENDS[before - 1] };
+        let lines = exchanged(alloc, &SMALLEST[..before])?.lines;
+        assert!(rt; ran.output.as_slice() == lines.as_slice());
         if offset == cut {
             assert_eq!(rt; ran.status, Status::Done);
         } else {
-            let offset = offset as u64;
-            assert_eq!(rt;
-                ran.status,
-                Status::BadTape {
-                    entry: before,
-                    offset
-                }
-            );
+            let (entry, offset) = (before as u64 + 1, offset as u64);
+            assert_eq!(rt; ran.status, Status::BadTape { entry, offset });
         }
-        assert!(rt; OUTPUT.starts_with(ran.output.as_slice()));
     }
     Ok(())
 }
@@ -112,13 +134,15 @@ fn a_tape_that_is_cut_is_answered_up_to_there(rt: HostRuntime) -> Result<(), Fai
 #[test]
 fn a_stream_that_fails_ends_the_run(rt: HostRuntime) -> Result<(), Fail> {
     let alloc = rt.alloc();
-    let read = ran(alloc, "run", TAPE, 4096, &[1], &[])?;
+    let whole = exchanged(alloc, &SMALLEST)?;
+    let read = ran(alloc, "run", whole.tape.as_slice(), 4096, &[1], &[])?;
     assert_eq!(rt; read.status, Status::ReadFault);
     assert!(rt; read.output.as_slice().is_empty());
     // The first line is written and flushed; the second write fails.
-    let written = ran(alloc, "run", TAPE, 4096, &[], &[3])?;
+    let written = ran(alloc, "run", whole.tape.as_slice(), 4096, &[], &[3])?;
     assert_eq!(rt; written.status, Status::WriteFault);
-    assert!(rt; written.output.as_slice() == PROVISIONED);
+    let first = exchanged(alloc, &SMALLEST[..1])?.lines;
+    assert!(rt; written.output.as_slice() == first.as_slice());
     Ok(())
 }
 
@@ -158,36 +182,8 @@ fn the_other_kinds_are_bad_requests(rt: HostRuntime) -> Result<(), Fail> {
     ] {
         let ran = ran(alloc, "run", tape, 4096, &[], &[])?;
         assert_eq!(rt; ran.status, Status::Done);
-        assert!(rt;
-            ran.output.as_slice()
-                == b"{\"refused\":{\"at\":1,\"no\":1,\"rule\":\"BadRequest\"},\"unit\":0}\n".as_slice()
-        );
+        let line = "{\"refused\":{\"at\":1,\"no\":1,\"rule\":\"BadRequest\"},\"unit\":0}\n";
+        assert!(rt; ran.output.as_slice() == line.as_bytes());
     }
-    Ok(())
-}
-
-#[test]
-fn spent_message_numbers_are_told(rt: HostRuntime) -> Result<(), Fail> {
-    let alloc = rt.alloc();
-    let start = Numbers {
-        message: 1 << 62,
-        ..Numbers::FIRST
-    };
-    let mut core = Core::new(alloc, start).ok().ok_or("no memory")?;
-    let mut sink = MemorySink::new(alloc, 4096, Vec::new(alloc));
-    for bytes in [&TAPE[..50], &TAPE[50..113]] {
-        match parse(alloc, bytes, 1000)? {
-            Parsed::Found(found) => {
-                let served = serve(alloc, &mut core, &mut sink, &found.entry);
-                assert_eq!(rt; served, Served::Done);
-            }
-            _ => assert!(rt; false, "no entry"),
-        }
-    }
-    assert!(rt;
-        sink.as_slice().ends_with(
-            b"{\"refused\":{\"kind\":\"message\",\"no\":27,\"rule\":\"IdsSpent\"},\"unit\":1}\n"
-        )
-    );
     Ok(())
 }

@@ -1,26 +1,25 @@
 // One entry is answered, and its line is written.
-ghost use Rattle.std.specs.Prelude.{◌≡◌, ◌≤◌, ◌⊎◌, ℕ, List, [], ◌∷◌, length, OnOk, OnErr};
+ghost use Rattle.std.specs.Prelude.{◌≡◌, ◌≢◌, ◌≤◌, ◌∷◌, [], List, OnErr, OnOk, length, true, ℕ};
 ghost use Rattle.std.specs.Io.KnownBytes.{Appends};
-ghost use Rattle.sp_base.specs.Causes.{Rose};
+ghost use Rattle.sp_base.specs.Causes.{HasCause, Rose};
+ghost use Rattle.sp_base.specs.Name.{is_caller};
 ghost use Rattle.sp_core.specs.Stands.{Stands};
 ghost use Rattle.sp_ledger.specs.Ledger.{Ledger};
-ghost use Rattle.sp_flowline.specs.Outcome.{Reads};
-ghost use Rattle.sp_flowline.specs.Request.{IsReadAs, request};
-ghost use Rattle.sp_tape.specs.Acts.{Acts, ActsAs, Answers, unread_answer};
-ghost use Rattle.sp_tape.specs.Runs.{Serves, WritesFront};
+ghost use Rattle.sp_tape.specs.Acts.{ActsAs, AnswersLine};
+ghost use Rattle.sp_tape.specs.Serves.{AnswersAsk, Serves, StandsAfter, WritesFront};
 
 use crate::entry::{Entry, Kind};
+use sp_base::declined::{Declined, EventRefusal};
 use sp_base::failure::Failed;
 use sp_base::io::Sink;
 use sp_base::moment::Moment;
 use sp_base::name::Name;
 use sp_base::refusal::Refusal;
-use sp_core::errors::{PrepareError, QueryError};
 use sp_core::state::Core;
 use sp_event::answer::Answered;
 use sp_event::request::{Ask, Event, Query};
 use sp_flowline::line::line;
-use sp_flowline::read::{ReadError, read};
+use sp_flowline::read::read;
 use std::alloc::Global;
 use std::slice;
 
@@ -34,10 +33,12 @@ pub enum Served {
 
 /// Answers one entry, and hands its line to the sink as one piece.
 pub fn serve<K: Sink>(alloc: Global, core: &mut Core, sink: &mut K, entry: &Entry) -> Served
+    requires stands { (L : Ledger) × Stands core.old L }
+    requires caller { is_caller entry.now.caller ≡ true }
     ensures serves { (L : Ledger) → Stands core.old L →
         Serves entry.now L core.new (K.written sink.old) (K.written sink.new) result }
-    ensures later { K.faults sink.old ≤ K.faults sink.new }
     ensures fault { result ≡ Served.Fault → Rose (K.faults sink.old) (K.faults sink.new) }
+    ensures no_fault { result ≢ Served.Fault → K.faults sink.new ≡ K.faults sink.old }
 {
     let answered = act(alloc, core, entry);
     let mut text = Vec::new(alloc);
@@ -54,8 +55,7 @@ pub fn serve<K: Sink>(alloc: Global, core: &mut Core, sink: &mut K, entry: &Entr
 fn put<K: Sink>(sink: &mut K, text: &[u8]) -> Result<(), Failed>
     ensures ok { OnOk result (Appends (K.written sink.old) (K.written sink.new) text.now) }
     ensures front { WritesFront (K.written sink.old) (K.written sink.new) text.now }
-    ensures later { K.faults sink.old ≤ K.faults sink.new }
-    ensures fault { OnErr result (Rose (K.faults sink.old) (K.faults sink.new)) }
+    ensures cause { HasCause (K.faults sink.old) (K.faults sink.new) result }
 {
     let mut at = 0;
     while at < text.len() {
@@ -65,7 +65,10 @@ fn put<K: Sink>(sink: &mut K, text: &[u8]) -> Result<(), Failed>
 }
 
 fn act(alloc: Global, core: &mut Core, entry: &Entry) -> Answered
-    ensures { (L : Ledger) → Stands core.old L → (M : Ledger) × Acts entry.now L result M × Stands core.new M }
+    requires stands { (L : Ledger) × Stands core.old L }
+    requires caller { is_caller entry.now.caller ≡ true }
+    ensures { (L : Ledger) → Stands core.old L →
+        StandsAfter (ActsAs entry.now.kind entry.now L) core.new result }
 {
     match entry.kind {
         Kind::Flow => act_flow(alloc, core, entry),
@@ -78,68 +81,64 @@ fn act(alloc: Global, core: &mut Core, entry: &Entry) -> Answered
 fn bad(at: u64) -> Answered
     ensures { result ≡ Answered.Refused (Refusal.BadRequest at) None }
 {
+    refused(Refusal::BadRequest { at })
+}
+
+fn refused(refusal: Refusal) -> Answered
+    ensures { result ≡ Answered.Refused refusal None }
+{
     Answered::Refused {
-        refusal: Refusal::BadRequest { at },
+        refusal,
         index: None,
     }
 }
 
 fn act_flow(alloc: Global, core: &mut Core, entry: &Entry) -> Answered
-    ensures { (L : Ledger) → Stands core.old L → (M : Ledger) × (ActsAs Kind.Flow entry.now L result M ⊎ ((result ≡ Answered.Memory) × (M ≡ L))) × Stands core.new M }
+    requires stands { (L : Ledger) × Stands core.old L }
+    requires caller { is_caller entry.now.caller ≡ true }
+    ensures { (L : Ledger) → Stands core.old L →
+        StandsAfter (AnswersLine entry.now.moment entry.now.caller entry.now.body L) core.new result }
 {
     match read(alloc, entry.body.as_slice()) {
-        Ok(ask) => answer(alloc, core, entry, ask),
-        Err(error) => unread(error),
+        Ok(ask) => answer(alloc, core, entry.moment, &entry.caller, ask),
+        Err(Declined::Refused(refusal)) => refused(refusal),
+        Err(Declined::Memory) => Answered::Memory,
     }
 }
 
-// The answer to a line of which no request was read.
-fn unread(error: ReadError) -> Answered
-    ensures { result ≡ unread_answer error }
-{
-    match error {
-        ReadError::Refused { refusal } => Answered::Refused {
-            refusal,
-            index: None,
-        },
-        ReadError::Memory => Answered::Memory,
-    }
-}
-
-fn answer(alloc: Global, core: &mut Core, entry: &Entry, ask: Ask) -> Answered
-    ensures { (L : Ledger) → Stands core.old L →
-        (M : Ledger) × Answers entry.now.moment entry.now.caller ask L result M × Stands core.new M }
+fn answer(alloc: Global, core: &mut Core, moment: Moment, caller: &Name, ask: Ask) -> Answered
+    requires stands { (L : Ledger) × Stands core.old L }
+    requires caller { is_caller caller.now ≡ true }
+    ensures { (L : Ledger) → Stands core.old L → StandsAfter (AnswersAsk moment caller.now ask L) core.new result }
 {
     match ask {
-        Ask::Do(event) => commit(alloc, core, entry.moment, &entry.caller, event),
-        Ask::Look(query) => look(alloc, core, entry.moment, &entry.caller, &query),
+        Ask::Do(event) => commit(alloc, core, moment, caller, event),
+        Ask::Look(query) => look(alloc, core, moment, caller, &query),
     }
 }
 
 fn look(alloc: Global, core: &Core, moment: Moment, caller: &Name, query: &Query) -> Answered
-    ensures { (L : Ledger) → Stands core.now L → Answers moment caller.now (Ask.Look query.now) L result L }
+    requires { is_caller caller.now ≡ true }
+    ensures { (L : Ledger) → Stands core.now L →
+        StandsAfter (AnswersAsk moment caller.now (Ask.Look query.now) L) core.now result }
 {
     match core.query(alloc, moment, caller, query) {
         Ok(reply) => Answered::Gave(reply),
-        Err(QueryError::Refused { refusal }) => Answered::Refused {
-            refusal,
-            index: None,
-        },
-        Err(QueryError::Memory) => Answered::Memory,
+        Err(Declined::Refused(refusal)) => refused(refusal),
+        Err(Declined::Memory) => Answered::Memory,
     }
 }
 
 fn commit(alloc: Global, core: &mut Core, moment: Moment, caller: &Name, event: Event) -> Answered
+    requires stands { (L : Ledger) × Stands core.old L }
+    requires caller { is_caller caller.now ≡ true }
     ensures { (L : Ledger) → Stands core.old L →
-        (M : Ledger) × Answers moment caller.now (Ask.Do event) L result M × Stands core.new M }
+        StandsAfter (AnswersAsk moment caller.now (Ask.Do event) L) core.new result }
 {
     match core.prepare(alloc, moment, caller, slice::from_ref(&event)) {
         Ok(ready) => Answered::Gave(first(core.apply(ready))),
-        Err(PrepareError::Refused { index: _, refusal }) => Answered::Refused {
-            refusal,
-            index: None,
-        },
-        Err(PrepareError::Memory) => Answered::Memory,
+        Err(Declined::Refused(EventRefusal { index: _, refusal })) => refused(refusal),
+        Err(Declined::Memory) => Answered::Memory,
     }
 }
 

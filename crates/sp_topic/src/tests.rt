@@ -125,22 +125,19 @@ fn a_tree_gives_each_endpoint_once_in_rising_number(rt: HostRuntime) -> Result<(
     let alloc = rt.alloc();
     let mut tree = Tree::new(alloc);
     for (endpoint, text) in [
-        (9, "a/*/c"),
-        (2, "a/b*/c"),
-        (3, "a/>"),
-        (4, "a/b/c/>"),
-        (5, ">"),
-        (9, "a/b/*"),
-        (1, ">"),
-        (1, "!a/>"),
-        (6, "!a/b/c"),
+        (EndpointNo::of(9), "a/*/c"),
+        (EndpointNo::of(2), "a/b*/c"),
+        (EndpointNo::of(3), "a/>"),
+        (EndpointNo::of(4), "a/b/c/>"),
+        (EndpointNo::of(5), ">"),
+        (EndpointNo::of(9), "a/b/*"),
+        (EndpointNo::of(1), ">"),
+        (EndpointNo::of(1), "!a/>"),
+        (EndpointNo::of(6), "!a/b/c"),
     ] {
-        tree.insert(
-            EndpointNo::new(endpoint),
-            &Subscription::read(alloc, text.as_bytes())?,
-        )?;
+        tree.insert(endpoint, &Subscription::read(alloc, text.as_bytes())?)?;
     }
-    let mut into = Vec::from_slice(alloc, &[EndpointNo::new(7), EndpointNo::new(3)])?;
+    let mut into = Vec::from_slice(alloc, &[EndpointNo::of(7), EndpointNo::of(3)])?;
     tree.matching(&Topic::read(alloc, b"a/b/c")?, &mut into)?;
     let expected = [2, 3, 5, 9];
     assert_eq!(rt; into.len(), expected.len());
@@ -149,7 +146,7 @@ fn a_tree_gives_each_endpoint_once_in_rising_number(rt: HostRuntime) -> Result<(
     }
     let rest = Subscription::read(alloc, b">")?;
     tree.reserve(&rest)?;
-    tree.remove(EndpointNo::new(5), &rest);
+    tree.remove(EndpointNo::of(5), &rest);
     tree.matching(&Topic::read(alloc, b"x")?, &mut into)?;
     assert_eq!(rt; into.len(), 1);
     assert_eq!(rt; into[0].value(), 1);

@@ -5,14 +5,12 @@ ghost use Rattle.sp_config.specs.Ranges.{is_in_range};
 ghost use Rattle.sp_config.specs.Settings.{with_settings};
 ghost use Rattle.std.specs.List.{list_all};
 
-use crate::access_type::AccessType;
 use crate::attr::Attr;
 use crate::attributes::Attributes;
-use crate::discard::DiscardBehavior;
-use crate::permission::permission_at;
 use crate::setting::Setting;
 use crate::settings::Settings;
 use crate::value::AttrValue;
+use sp_base::choice::at_place;
 use sp_base::name::Name;
 use std::alloc::{AllocError, Global};
 
@@ -103,15 +101,15 @@ impl Attributes {
     {
         match attr {
             Attr::AccessType => {
-                let access_type = AccessType::at(place);
+                let access_type = at_place(place as usize);
                 self.access_type = access_type.unwrap_or(self.access_type);
             }
             Attr::Permission => {
-                let permission = permission_at(place);
+                let permission = at_place(place as usize);
                 self.permission = permission.unwrap_or(self.permission);
             }
             Attr::RejectMsgToSenderOnDiscardBehavior => {
-                let behavior = DiscardBehavior::at(place);
+                let behavior = at_place(place as usize);
                 self.reject_msg_to_sender_on_discard_behavior = behavior.unwrap_or(
                     self.reject_msg_to_sender_on_discard_behavior,
                 );

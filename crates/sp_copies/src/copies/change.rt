@@ -1,26 +1,26 @@
 // The changes of a store, which take no memory.
-ghost use Rattle.std.specs.Prelude.{◌≡◌, ◌≤◌, ◌<◌, ◌+◌, ◌^◌, ℕ, true};
-ghost use Rattle.sp_copies.specs.History.{History, used_bytes, is_spooled, is_free, is_held, with_made, with_closed, with_held, with_given_back};
-ghost use Rattle.sp_copies.specs.Kept.{Records};
+ghost use Rattle.std.specs.Prelude.{◌≡◌, ◌≤◌, ◌<◌, ◌+◌, ◌^◌, length, true};
+ghost use Rattle.sp_copies.specs.History.{History, used_bytes, is_spooled, is_free, is_held, with_made, with_closed, with_held, with_given_back, with_share, all_shared};
+ghost use Rattle.sp_copies.specs.Kept.{MayBeShared, Records};
 
-use crate::closed::{ClosedCopy, Closing};
+use crate::closed::{Cause, ClosedCopy, Closing};
 use crate::copies::Copies;
-use crate::held::{CopyAttempts, HeldCopy};
-use crate::made::{MadeCopy, NewCopy};
+use crate::held::{CopyAttempts, HeldCopy, count_attempt, let_go};
+use crate::made::{MadeCopy, NewCopy, Share};
 use sp_base::moment::Moment;
 use sp_base::number::{CopyNo, FlowNo};
 
 impl Copies {
-    /// Makes a copy, and takes no memory.
+    /// Makes a copy under the next number, and takes no memory.
     pub fn make(&mut self, copy: NewCopy) -> CopyNo
         requires room { 0 < self.old.spare }
-        requires next { (H : History) → Records self.old H → H.next ≤ 2 ^ 62 }
-        requires used { (H : History) → Records self.old H → used_bytes H copy.endpoint + copy.size ≤ 2 ^ 40 }
+        requires next { (H : History) × Records self.old H × (H.next ≤ 2 ^ 62) }
+        requires used { (H : History) × Records self.old H × (used_bytes H copy.endpoint + copy.size ≤ 2 ^ 40) }
         ensures number { (H : History) → Records self.old H → result ≡ H.next }
         ensures made { (H : History) → Records self.old H → Records self.new (with_made copy H) }
         ensures room { self.old.spare ≤ self.new.spare + 1 }
     {
-        let number = CopyNo::new(self.next);
+        let number = CopyNo::of(self.next);
         self.made.add(MadeCopy {
             number,
             endpoint: copy.endpoint,
@@ -39,9 +39,35 @@ impl Copies {
         number
     }
 
+    /// Makes the copies of a publish in order, and takes no memory. Those that aren't spooled are
+    /// closed at once.
+    pub fn publish(&mut self, shares: &[Share], moment: Moment)
+        requires room { length shares.now ≤ self.old.spare }
+        requires may { (H : History) × Records self.old H × MayBeShared shares.now H }
+        ensures made { (H : History) → Records self.old H → Records self.new (all_shared moment shares.now H) }
+        ensures room { self.old.spare ≤ self.new.spare + length shares.now }
+    {
+        for share in shares {
+            self.share(*share, moment);
+        }
+    }
+
+    fn share(&mut self, share: Share, moment: Moment)
+        requires room { 0 < self.old.spare }
+        requires next { (H : History) × Records self.old H × (H.next ≤ 2 ^ 62) }
+        requires used { (H : History) × Records self.old H × (used_bytes H share.copy.endpoint + share.copy.size ≤ 2 ^ 40) }
+        ensures made { (H : History) → Records self.old H → Records self.new (with_share moment share H) }
+        ensures room { self.old.spare ≤ self.new.spare + 1 }
+    {
+        let copy = self.make(share.copy);
+        if !share.is_spooled {
+            self.close(copy, Closing::Discarded(Cause::NotSpooled), moment);
+        }
+    }
+
     /// Closes a spooled copy, and takes no memory. No flow holds it any more.
     pub fn close(&mut self, copy: CopyNo, how: Closing, at: Moment)
-        requires spooled { (H : History) → Records self.old H → is_spooled H copy ≡ true }
+        requires spooled { (H : History) × Records self.old H × (is_spooled H copy ≡ true) }
         ensures closed { (H : History) → Records self.old H → Records self.new (with_closed copy how at H) }
         ensures room { self.old.spare ≤ self.new.spare }
     {
@@ -50,25 +76,25 @@ impl Copies {
             how,
             moment: at,
         });
-        self.held.remove(copy);
+        let_go(&mut self.held, copy);
     }
 
     /// Hands a spooled copy that no flow holds out to a flow, and takes no memory.
     pub fn hold(&mut self, copy: CopyNo, flow: FlowNo)
-        requires free { (H : History) → Records self.old H → is_free H copy ≡ true }
+        requires free { (H : History) × Records self.old H × (is_free H copy ≡ true) }
         ensures held { (H : History) → Records self.old H → Records self.new (with_held copy flow H) }
         ensures room { self.old.spare ≤ self.new.spare }
     {
         self.held.add(HeldCopy { copy, flow });
-        self.attempts.count(copy);
+        count_attempt(&mut self.attempts, copy);
     }
 
     /// Takes a copy back from the flow that holds it, and takes no memory.
     pub fn give_back(&mut self, copy: CopyNo)
-        requires held { (H : History) → Records self.old H → is_held H.held copy ≡ true }
+        requires held { (H : History) × Records self.old H × (is_held H.held copy ≡ true) }
         ensures given_back { (H : History) → Records self.old H → Records self.new (with_given_back copy H) }
         ensures room { self.old.spare ≤ self.new.spare }
     {
-        self.held.remove(copy);
+        let_go(&mut self.held, copy);
     }
 }

@@ -1,12 +1,12 @@
 // How many copies have which fate.
-ghost use Rattle.std.specs.Prelude.{◌≡◌, ◌-◌, ◌^◌, ℕ, IfOk, min};
+ghost use Rattle.std.specs.Prelude.{◌≡◌, ◌-◌, ◌^◌, None, Some, IfOk, min};
 ghost use Rattle.sp_copies.specs.History.{History};
-ghost use Rattle.sp_copies.specs.Counts.{made_count, spooled_count, accepted_count, moved_count, discarded_count, cause_counts, used_in};
+ghost use Rattle.sp_copies.specs.Counts.{made_count, spooled_count, closing_count, causes_in, used_in, is_accepted, is_moved, is_discarded};
 ghost use Rattle.sp_copies.specs.Kept.{Records};
 
 use crate::closed::CauseCount;
 use crate::copies::Copies;
-use crate::look;
+use crate::{counts, look};
 use sp_base::items::Items;
 use sp_base::number::EndpointNo;
 use std::alloc::{AllocError, Global};
@@ -16,35 +16,35 @@ impl Copies {
     pub fn count_made(&self, endpoint: Option<EndpointNo>) -> u64
         ensures { (H : History) → Records self.now H → result ≡ made_count H endpoint }
     {
-        look::count_made(self.made.as_slice(), endpoint) as u64
+        counts::count_made(self.made.as_slice(), endpoint) as u64
     }
 
     /// How many of them are spooled.
     pub fn count_spooled(&self, endpoint: Option<EndpointNo>) -> u64
         ensures { (H : History) → Records self.now H → result ≡ spooled_count H endpoint }
     {
-        look::count_spooled(self.made.as_slice(), self.closed.as_slice(), endpoint) as u64
+        counts::count_spooled(self.made.as_slice(), self.closed.as_slice(), endpoint) as u64
     }
 
     /// How many of them were accepted.
     pub fn count_accepted(&self, endpoint: Option<EndpointNo>) -> u64
-        ensures { (H : History) → Records self.now H → result ≡ accepted_count H endpoint }
+        ensures { (H : History) → Records self.now H → result ≡ closing_count H endpoint (λ how. is_accepted (Some how)) }
     {
-        look::count_accepted(self.made.as_slice(), self.closed.as_slice(), endpoint) as u64
+        counts::count_accepted(self.made.as_slice(), self.closed.as_slice(), endpoint) as u64
     }
 
     /// How many of them were moved to a dead-message queue.
     pub fn count_moved(&self, endpoint: Option<EndpointNo>) -> u64
-        ensures { (H : History) → Records self.now H → result ≡ moved_count H endpoint }
+        ensures { (H : History) → Records self.now H → result ≡ closing_count H endpoint (λ how. is_moved (Some how)) }
     {
-        look::count_moved(self.made.as_slice(), self.closed.as_slice(), endpoint) as u64
+        counts::count_moved(self.made.as_slice(), self.closed.as_slice(), endpoint) as u64
     }
 
     /// How many of them were discarded.
     pub fn count_discarded(&self, endpoint: Option<EndpointNo>) -> u64
-        ensures { (H : History) → Records self.now H → result ≡ discarded_count H endpoint }
+        ensures { (H : History) → Records self.now H → result ≡ closing_count H endpoint (λ how. is_discarded (Some how)) }
     {
-        look::count_discarded(self.made.as_slice(), self.closed.as_slice(), endpoint) as u64
+        counts::count_discarded(self.made.as_slice(), self.closed.as_slice(), endpoint) as u64
     }
 
     /// The causes that discarded them, in the order of their names.
@@ -53,9 +53,9 @@ impl Copies {
         alloc: Global,
         endpoint: Option<EndpointNo>,
     ) -> Result<Items<CauseCount>, AllocError>
-        ensures { IfOk result (λ counts. (H : History) → Records self.now H → counts ≡ cause_counts H endpoint) }
+        ensures { IfOk result (λ counts. (H : History) → Records self.now H → counts ≡ causes_in H endpoint) }
     {
-        let counts = look::count_causes(
+        let counts = counts::count_causes(
             alloc,
             self.made.as_slice(),
             self.closed.as_slice(),
@@ -68,6 +68,15 @@ impl Copies {
     pub fn used_in(&self, endpoint: Option<EndpointNo>) -> u64
         ensures { (H : History) → Records self.now H → result ≡ min (used_in H endpoint) (2 ^ 64 - 1) }
     {
-        look::used_in(self.made.as_slice(), self.closed.as_slice(), endpoint)
+        match endpoint {
+            Some(endpoint) => self.used(endpoint),
+            None => self.used_in_all(),
+        }
+    }
+
+    fn used_in_all(&self) -> u64
+        ensures { (H : History) → Records self.now H → result ≡ min (used_in H None) (2 ^ 64 - 1) }
+    {
+        look::used_by_all(self.made.as_slice(), self.closed.as_slice())
     }
 }

@@ -1,6 +1,6 @@
 // What a store tells of its copies and of who holds them.
-ghost use Rattle.std.specs.Prelude.{◌≡◌, ◌≤◌, ◌^◌, ℕ, IfOk};
-ghost use Rattle.sp_copies.specs.History.{History, copy_of, fate_of, attempts_of, used_bytes, holder_in, holder_of, held_by, is_held, is_held_by, is_spooled, is_free, next_spooled, waiting_copies};
+ghost use Rattle.std.specs.Prelude.{◌≡◌, ◌≤◌, ◌^◌, length, IfOk};
+ghost use Rattle.sp_copies.specs.History.{History, copy_of, fate_of, attempts_of, used_bytes, holder_in, holder_of, held_by, is_held, is_held_by, is_spooled, is_free, next_spooled, open_copies, waiting_copies};
 ghost use Rattle.sp_copies.specs.Kept.{Records};
 
 use crate::closed::Fate;
@@ -114,6 +114,30 @@ impl Copies {
         ensures { IfOk result (λ copies. (H : History) → Records self.now H → copies ≡ held_by H flow) }
     {
         let copies = holders::held_by(alloc, self.made.as_slice(), self.held.as_slice(), flow)?;
+        Ok(Items::from_vec(copies))
+    }
+
+    /// How many copies a flow holds.
+    pub fn count_held_by(&self, flow: FlowNo) -> usize
+        ensures { (H : History) → Records self.now H → result ≡ length (held_by H flow) }
+    {
+        holders::count_held_by(self.held.as_slice(), flow)
+    }
+
+    /// The spooled copies of an endpoint, in order of number.
+    pub fn spooled_in(
+        &self,
+        alloc: Global,
+        endpoint: EndpointNo,
+    ) -> Result<Items<MadeCopy>, AllocError>
+        ensures { IfOk result (λ copies. (H : History) → Records self.now H → copies ≡ open_copies H endpoint) }
+    {
+        let copies = fates::spooled_in(
+            alloc,
+            self.made.as_slice(),
+            self.closed.as_slice(),
+            endpoint,
+        )?;
         Ok(Items::from_vec(copies))
     }
 

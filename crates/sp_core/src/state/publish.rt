@@ -1,83 +1,87 @@
 // A message is published.
-ghost use Rattle.std.specs.Prelude.{◌≡◌, ◌≤◌, ◌<◌, ◌+◌, ◌∷◌, [], length, map, max, IfOk, IfErr, OnOk, None};
-ghost use Rattle.sp_core.specs.Decided.{IsOf, IsPrepared, IsRefused};
-ghost use Rattle.sp_core.specs.Errors.{OnRefused};
-ghost use Rattle.sp_core.specs.Stands.{Stands, IsRoomier};
-ghost use Rattle.sp_core.specs.Targets.{queue_check, target_row};
-ghost use Rattle.sp_ledger.specs.Checks.{first_refusal, is_copy_spent, is_spent};
+ghost use Rattle.sp_base.specs.Declined.{Obeys};
+ghost use Rattle.sp_core.specs.Decided.{publish_plan, verdict};
+ghost use Rattle.sp_core.specs.Stands.{Stands};
+ghost use Rattle.sp_endpoint.specs.Takers.{takers};
 ghost use Rattle.sp_ledger.specs.Ledger.{Ledger};
-ghost use Rattle.sp_ledger.specs.Publish.{publish_checks};
-ghost use Rattle.sp_ledger.specs.Targets.{targets};
+ghost use Rattle.sp_ledger.specs.Publish.{lacks_queue, publish, quota_check, told_copies};
+ghost use Rattle.sp_ledger.specs.Step.{first_refusal, is_copy_spent, is_spent, rule};
+ghost use Rattle.sp_message.specs.Size.{dest_bytes, size_of};
+ghost use Rattle.std.specs.Prelude.{◌≡◌, ◌≤◌, ◌+◌, ◌^◌, ◌++◌, ◌∷◌, [], IfOk, length, map};
 
-use crate::errors::PrepareError;
-use crate::plan::Plan;
-use crate::ready::Ready;
-use crate::refusals::{SPENT, refused};
-use crate::rows::Published;
 use crate::state::Core;
-use crate::targets::{Target, new_copies, quota_refusal, targets_of, told_copies};
-use sp_base::items::Items;
-use sp_base::moment::Moment;
+use sp_base::declined::Declined;
 use sp_base::name::Name;
-use sp_base::number::MessageNo;
 use sp_base::refusal::{Kind, Refusal};
+use sp_endpoint::endpoint::Endpoint;
 use sp_event::answer::Reply;
-use sp_event::request::Event;
 use sp_message::message::{Dest, Message};
+use sp_plan::asking::SPENT;
+use sp_plan::change::Change;
+use sp_plan::plan::Plan;
+use sp_plan::publishing::{all_shares, told_copies};
 use std::alloc::{AllocError, Global};
 
 // The last copy number that a publish draws.
 const LAST_COPY: u64 = 1 << 61;
 
 impl Core {
-    pub fn prepare_publish(
-        &mut self,
+    pub(crate) fn decide_publish(
+        &self,
         alloc: Global,
-        now: Moment,
-        from: &Name,
         message: &Message,
-    ) -> Result<Ready, PrepareError>
-        ensures same { IsRoomier self.old self.new }
-        ensures ready { IfOk result (IsPrepared self.new) }
-        ensures request { IfOk result (IsOf now from.now (Event.Publish message.now)) }
-        ensures refused { IfErr result (λ e. OnRefused e (IsRefused self.old now from.now (Event.Publish message.now))) }
+    ) -> Result<Plan, Declined<Refusal>>
+        ensures { (L : Ledger) → Stands self.now L → Obeys (verdict L (publish message.now L)) result }
     {
-        let targets = self.targets(alloc, &message.dest)?;
-        if let Some(refusal) = self.publish_refusal(alloc, message, targets.as_slice())? {
-            return Err(refused(refusal));
+        let into = self.takers(alloc, message)?;
+        match self.publish_refusal(alloc, message, into.as_slice())? {
+            Some(refusal) => Err(Declined::Refused(refusal)),
+            None => Ok(self.publish_plan(alloc, message, into.as_slice())?),
         }
-        self.reserve_publish(targets.len())?;
-        Ok(self.ready_publish(alloc, now, from, message, targets.as_slice())?)
     }
 
-    // The endpoints to which a message goes, in the byte order of their names.
-    fn targets(&self, alloc: Global, dest: &Dest) -> Result<Items<Target>, AllocError>
-        ensures { IfOk result (λ ts. (L : Ledger) → Stands self.now L → ts ≡ map (target_row L.copies) (targets L dest.now)) }
+    // The endpoints that take a message, in the byte order of their names.
+    fn takers(&self, alloc: Global, message: &Message) -> Result<Vec<&Endpoint>, AllocError>
+        ensures { IfOk result (λ into. (L : Ledger) → Stands self.now L → map (λ e. e.now) into.items ≡ takers L.endpoints message.now) }
     {
-        targets_of(alloc, self.endpoints.as_slice(), &self.copies, dest)
+        self.endpoints.takers(alloc, message)
     }
 
     fn publish_refusal(
         &self,
         alloc: Global,
         message: &Message,
-        takers: &[Target],
+        into: &[&Endpoint],
     ) -> Result<Option<Refusal>, AllocError>
-        requires { (L : Ledger) → Stands self.now L → takers.now ≡ map (target_row L.copies) (targets L message.now.dest) }
-        ensures { IfOk result (λ r. (L : Ledger) → Stands self.now L → r ≡ first_refusal (publish_checks L message.now)) }
+        ensures { IfOk result (λ r. (L : Ledger) → Stands self.now L → r ≡ first_refusal (rule (lacks_queue message.now.dest L.endpoints) (Refusal.UnknownEndpoint (dest_bytes message.now.dest))
+            ∷ map (quota_check L (size_of message.now)) (map (λ e. e.now) into.now)
+            ++ is_spent L.next.message Kind.Message ∷ is_copy_spent (L.copies.next + length into.now) ∷ is_spent L.next.unit Kind.Unit ∷ [])) }
     {
-        if let Some(refusal) = self.queue_refusal(alloc, &message.dest)? {
-            return Ok(Some(refusal));
+        match self.queue_refusal(alloc, &message.dest)? {
+            Some(refusal) => Ok(Some(refusal)),
+            None => self.room_refusal(alloc, into, message.size()),
         }
-        if let Some(refusal) = quota_refusal(alloc, takers, message.size())? {
-            return Ok(Some(refusal));
+    }
+
+    // Whether an endpoint or a kind of numbers has no room left for the copies.
+    fn room_refusal(
+        &self,
+        alloc: Global,
+        into: &[&Endpoint],
+        size: u64,
+    ) -> Result<Option<Refusal>, AllocError>
+        ensures { IfOk result (λ r. (L : Ledger) → Stands self.now L → r ≡ first_refusal (map (quota_check L size) (map (λ e. e.now) into.now)
+            ++ is_spent L.next.message Kind.Message ∷ is_copy_spent (L.copies.next + length into.now) ∷ is_spent L.next.unit Kind.Unit ∷ [])) }
+    {
+        match self.quota_refusal(alloc, into, size)? {
+            Some(refusal) => Ok(Some(refusal)),
+            None => Ok(self.numbers_refusal(into.len())),
         }
-        Ok(self.numbers_refusal(takers.len()))
     }
 
     // Whether a message is sent to a queue that isn't there.
     fn queue_refusal(&self, alloc: Global, dest: &Dest) -> Result<Option<Refusal>, AllocError>
-        ensures { IfOk result (λ r. (L : Ledger) → Stands self.now L → r ≡ first_refusal (queue_check L dest.now ∷ [])) }
+        ensures { IfOk result (λ r. (L : Ledger) → Stands self.now L → r ≡ first_refusal (rule (lacks_queue dest.now L.endpoints) (Refusal.UnknownEndpoint (dest_bytes dest.now)) ∷ [])) }
     {
         match dest {
             Dest::Topic(_) => Ok(None),
@@ -86,7 +90,7 @@ impl Core {
     }
 
     fn missing_queue(&self, alloc: Global, name: &Name) -> Result<Option<Refusal>, AllocError>
-        ensures { IfOk result (λ r. (L : Ledger) → Stands self.now L → r ≡ first_refusal (queue_check L (Dest.Queue name.now) ∷ [])) }
+        ensures { IfOk result (λ r. (L : Ledger) → Stands self.now L → r ≡ first_refusal (rule (lacks_queue (Dest.Queue name.now) L.endpoints) (Refusal.UnknownEndpoint name.now) ∷ [])) }
     {
         if self.find_queue(name).is_some() {
             return Ok(None);
@@ -96,83 +100,77 @@ impl Core {
         }))
     }
 
+    // The refusal by the first endpoint whose quota has no room for a copy of this many bytes.
+    fn quota_refusal(
+        &self,
+        alloc: Global,
+        into: &[&Endpoint],
+        size: u64,
+    ) -> Result<Option<Refusal>, AllocError>
+        ensures { IfOk result (λ r. (L : Ledger) → Stands self.now L → r ≡ first_refusal (map (quota_check L size) (map (λ e. e.now) into.now))) }
+    {
+        for endpoint in into {
+            if let Some(refusal) = self.excess(alloc, endpoint, size)? {
+                return Ok(Some(refusal));
+            }
+        }
+        Ok(None)
+    }
+
+    fn excess(
+        &self,
+        alloc: Global,
+        endpoint: &Endpoint,
+        size: u64,
+    ) -> Result<Option<Refusal>, AllocError>
+        ensures { IfOk result (λ r. (L : Ledger) → Stands self.now L → r ≡ first_refusal (quota_check L size endpoint.now ∷ [])) }
+    {
+        let used = self.copies.used(endpoint.number);
+        let max = endpoint.attributes.quota_bytes();
+        if used.saturating_add(size) <= max {
+            return Ok(None);
+        }
+        Ok(Some(Refusal::QuotaExceeded {
+            name: endpoint.name.text(alloc)?,
+            used,
+            size,
+            max,
+        }))
+    }
+
     // Whether the numbers that a publish of this many copies draws are drawn.
     fn numbers_refusal(&self, copies: usize) -> Option<Refusal>
         ensures { (L : Ledger) → Stands self.now L → result ≡ first_refusal (is_spent L.next.message Kind.Message ∷ is_copy_spent (L.copies.next + copies) ∷ is_spent L.next.unit Kind.Unit ∷ []) }
     {
-        if self.next_message() >= SPENT {
+        if self.next_message.value() >= SPENT {
             return Some(Refusal::IdsSpent {
                 kind: Kind::Message,
             });
         }
-        if self.next_copy().saturating_add(copies as u64) > LAST_COPY + 1 {
+        if self.copies.next().saturating_add(copies as u64) > LAST_COPY + 1 {
             return Some(Refusal::IdsSpent { kind: Kind::Copy });
         }
         self.unit_refusal()
     }
 
-    // A publish that isn't refused.
-    fn ready_publish(
+    // Numbers are left for the copies.
+    fn publish_plan(
         &self,
         alloc: Global,
-        now: Moment,
-        from: &Name,
         message: &Message,
-        takers: &[Target],
-    ) -> Result<Ready, AllocError>
-        requires messages { 0 < self.now.message_room }
-        requires copies { length takers.now ≤ self.now.copies.spare }
-        requires takers { (L : Ledger) → Stands self.now L → takers.now ≡ map (target_row L.copies) (targets L message.now.dest) }
-        requires passes { (L : Ledger) → Stands self.now L → first_refusal (publish_checks L message.now) ≡ None }
-        ensures ready { IfOk result (IsPrepared self.now) }
-        ensures request { IfOk result (IsOf now from.now (Event.Publish message.now)) }
+        into: &[&Endpoint],
+    ) -> Result<Plan, AllocError>
+        requires { (L : Ledger) → Stands self.now L → L.copies.next + length into.now ≤ 2 ^ 62 }
+        ensures { IfOk result (λ plan. (L : Ledger) → Stands self.now L → plan ≡ publish_plan message.now (map (λ e. e.now) into.now) L) }
     {
-        let number = MessageNo::new(self.next_message());
-        let row = Published {
-            number,
-            message: message.copy(alloc)?,
-            moment: self.later(now),
-        };
-        let copies = new_copies(alloc, takers, number, message.size())?;
+        let number = self.next_message;
+        let told = told_copies(alloc, into, self.copies.next())?;
+        let shares = all_shares(alloc, into, number, message.size())?;
+        let message = message.copy(alloc)?;
         let reply = Reply::Publish {
             message: number,
-            copies: told_copies(alloc, takers, self.copies.next())?,
+            copies: told,
         };
-        Ready::of_one(alloc, now, from, Plan::Publish { row, copies }, reply)
-    }
-
-    fn next_message(&self) -> u64
-        ensures { (L : Ledger) → Stands self.now L → result ≡ L.next.message }
-    {
-        self.next.message
-    }
-
-    fn next_copy(&self) -> u64
-        ensures { (L : Ledger) → Stands self.now L → result ≡ L.copies.next }
-    {
-        self.copies.next()
-    }
-
-    fn reserve_publish(&mut self, copies: usize) -> Result<(), AllocError>
-        ensures same { IsRoomier self.old self.new }
-        ensures messages { OnOk result (0 < self.new.message_room) }
-        ensures copies { OnOk result (copies ≤ self.new.copies.spare) }
-    {
-        self.reserve_message()?;
-        self.reserve_copies(copies)
-    }
-
-    fn reserve_message(&mut self) -> Result<(), AllocError>
-        ensures same { IsRoomier self.old self.new }
-        ensures room { OnOk result (0 < self.new.message_room) }
-    {
-        self.messages.reserve(1)
-    }
-
-    fn reserve_copies(&mut self, more: usize) -> Result<(), AllocError>
-        ensures same { IsRoomier self.old self.new }
-        ensures room { OnOk result (more ≤ self.new.copies.spare) }
-    {
-        self.copies.reserve(more)
+        Plan::of_one(alloc, Change::Publishes { message, shares }, reply)
     }
 }

@@ -1,13 +1,16 @@
 // Queries.
-ghost use Rattle.std.specs.Prelude.{◌≡◌, ℕ, IfOk, IfErr, Some};
-ghost use Rattle.sp_core.specs.Errors.{OnUnanswered};
-ghost use Rattle.sp_core.specs.Stands.{Stands};
+ghost use Rattle.sp_base.specs.Name.{is_caller};
+ghost use Rattle.sp_copies.specs.Counts.{used_in};
 ghost use Rattle.sp_copies.specs.History.{fate_of};
-ghost use Rattle.sp_ledger.specs.Answer.{answer, copy_answer, details_of, gave, told_details, unanswered, tally_in};
+ghost use Rattle.sp_core.specs.Asked.{IsAnswered};
+ghost use Rattle.sp_core.specs.Stands.{Stands};
+ghost use Rattle.sp_ledger.specs.Answer.{copy_reply, details_of, is_kept};
 ghost use Rattle.sp_ledger.specs.Ledger.{Ledger};
+ghost use Rattle.sp_ledger.specs.Tally.{tally_in};
+ghost use Rattle.std.specs.Prelude.{◌≡◌, if◌then◌else◌, IfOk, None, Some, true};
 
-use crate::errors::QueryError;
 use crate::state::Core;
+use sp_base::declined::Declined;
 use sp_base::moment::Moment;
 use sp_base::name::Name;
 use sp_base::number::{CopyNo, EndpointNo};
@@ -15,6 +18,7 @@ use sp_base::refusal::Refusal;
 use sp_copies::closed::Fate;
 use sp_event::answer::{CopyDetails, Reply, Tally};
 use sp_event::request::Query;
+use sp_plan::asking::is_kept;
 use std::alloc::{AllocError, Global};
 
 impl Core {
@@ -26,10 +30,9 @@ impl Core {
         now: Moment,
         from: &Name,
         q: &Query,
-    ) -> Result<Reply, QueryError>
-        ensures gave { IfOk result (λ reply. (L : Ledger) → Stands self.now L → answer now from.now q.now L ≡ gave reply) }
-        ensures refused { IfErr result (λ e. OnUnanswered e (λ refusal.
-            (L : Ledger) → Stands self.now L → answer now from.now q.now L ≡ unanswered refusal)) }
+    ) -> Result<Reply, Declined<Refusal>>
+        requires { is_caller from.now ≡ true }
+        ensures { IsAnswered self.now now from.now q.now result }
     {
         match q {
             Query::Tally { endpoint } => self.tally_of(alloc, now, from, endpoint),
@@ -40,49 +43,25 @@ impl Core {
     fn tally_of(
         &self,
         alloc: Global,
-        now: Moment,
-        from: &Name,
+        moment: Moment,
+        caller: &Name,
         endpoint: &Option<Name>,
-    ) -> Result<Reply, QueryError>
-        ensures gave { IfOk result (λ reply. (L : Ledger) → Stands self.now L → answer now from.now (Query.Tally endpoint.now) L ≡ gave reply) }
-        ensures refused { IfErr result (λ e. OnUnanswered e (λ refusal.
-            (L : Ledger) → Stands self.now L → answer now from.now (Query.Tally endpoint.now) L ≡ unanswered refusal)) }
+    ) -> Result<Reply, Declined<Refusal>>
+        ensures { IsAnswered self.now moment caller.now (Query.Tally endpoint.now) result }
     {
-        match endpoint {
-            None => Ok(Reply::Tally(self.tally(alloc, None)?)),
-            Some(name) => self.tally_named(alloc, now, from, name),
-        }
-    }
-
-    fn tally_named(
-        &self,
-        alloc: Global,
-        now: Moment,
-        from: &Name,
-        name: &Name,
-    ) -> Result<Reply, QueryError>
-        ensures gave { IfOk result (λ reply. (L : Ledger) → Stands self.now L → answer now from.now (Query.Tally (Some name.now)) L ≡ gave reply) }
-        ensures refused { IfErr result (λ e. OnUnanswered e (λ refusal.
-            (L : Ledger) → Stands self.now L → answer now from.now (Query.Tally (Some name.now)) L ≡ unanswered refusal)) }
-    {
+        let Some(name) = endpoint else {
+            return Ok(Reply::Tally(self.tally(alloc, None)?));
+        };
         let Some(found) = self.find(name) else {
             let name = name.text(alloc)?;
-            return Err(QueryError::Refused {
-                refusal: Refusal::UnknownEndpoint { name },
-            });
+            return Err(Declined::Refused(Refusal::UnknownEndpoint { name }));
         };
         Ok(Reply::Tally(self.tally(alloc, Some(found.number))?))
     }
 
-    // Where the bytes of all spooled copies pass every u64, which no disk holds, there is no
-    // number to tell, and the answer is want of memory.
     fn tally(&self, alloc: Global, endpoint: Option<EndpointNo>) -> Result<Tally, AllocError>
         ensures { IfOk result (λ t. (L : Ledger) → Stands self.now L → t ≡ tally_in L.copies endpoint) }
     {
-        let used = self.copies.used_in(endpoint);
-        if used == u64::MAX {
-            return Err(AllocError);
-        }
         Ok(Tally {
             accepted: self.copies.count_accepted(endpoint),
             causes: self.copies.count_causes(alloc, endpoint)?,
@@ -90,19 +69,35 @@ impl Core {
             made: self.copies.count_made(endpoint),
             moved: self.copies.count_moved(endpoint),
             spooled: self.copies.count_spooled(endpoint),
-            used,
+            used: self.used_in(endpoint),
         })
     }
 
-    fn copy_report(&self, copy: CopyNo) -> Reply
-        ensures { (L : Ledger) → Stands self.now L → copy_answer L.copies copy ≡ gave result }
+    // The bytes that the spooled copies use: of at most 1,000 endpoints, each within its quota.
+    fn used_in(&self, endpoint: Option<EndpointNo>) -> u64
+        ensures { (L : Ledger) → Stands self.now L → result ≡ used_in L.copies endpoint }
     {
-        let details = told_details(self.fate(copy), self.details(copy));
+        self.copies.used_in(endpoint)
+    }
+
+    fn copy_report(&self, copy: CopyNo) -> Reply
+        ensures { (L : Ledger) → Stands self.now L → result ≡ copy_reply L.copies copy }
+    {
+        let details = self.kept_details(copy);
         Reply::Copy {
             copy,
             fate: self.fate(copy),
             details,
         }
+    }
+
+    fn kept_details(&self, copy: CopyNo) -> Option<CopyDetails>
+        ensures { (L : Ledger) → Stands self.now L → result ≡ (if is_kept (fate_of L.copies copy) then details_of L.copies copy else None) }
+    {
+        if !is_kept(self.fate(copy)) {
+            return None;
+        }
+        self.details(copy)
     }
 
     fn fate(&self, copy: CopyNo) -> Fate
@@ -122,15 +117,5 @@ impl Core {
                 attempts: self.copies.attempts(copy),
             }),
         }
-    }
-}
-
-fn told_details(fate: Fate, details: Option<CopyDetails>) -> Option<CopyDetails>
-    ensures { result ≡ told_details fate details }
-{
-    match fate {
-        Fate::Never => None,
-        Fate::Earlier => None,
-        _ => details,
     }
 }

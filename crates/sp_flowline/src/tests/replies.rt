@@ -16,7 +16,7 @@ fn a_bind_tells_the_flow(rt: HostRuntime) -> Result<(), Fail> {
     let alloc = rt.alloc();
     let reply = Reply::Bind {
         endpoint: Name::read(alloc, b"q1")?,
-        flow: FlowNo::new(1),
+        flow: FlowNo::of(1),
         discarded: 0,
     };
     let text = r#"{"discarded":0,"endpoint":"q1","flow":1,"ok":"bind","unit":3}"#;
@@ -28,18 +28,18 @@ fn a_bind_tells_the_flow(rt: HostRuntime) -> Result<(), Fail> {
 fn an_unbind_tells_what_it_closed(rt: HostRuntime) -> Result<(), Fail> {
     let alloc = rt.alloc();
     let nothing = Reply::Unbind {
-        flow: FlowNo::new(1),
+        flow: FlowNo::of(1),
         closed: Items::none(alloc),
         returned: 0,
     };
     let text = r#"{"closed":[],"flow":1,"ok":"unbind","returned":0,"unit":9}"#;
     assert!(rt; shows(alloc, Answered::Gave(nothing), 9, text)?);
     let expired = CopyFate {
-        copy: CopyNo::new(2),
+        copy: CopyNo::of(2),
         fate: Fate::Discarded(Cause::Expired),
     };
     let one = Reply::Unbind {
-        flow: FlowNo::new(1),
+        flow: FlowNo::of(1),
         closed: Items::one(alloc, expired)?,
         returned: 1,
     };
@@ -56,8 +56,8 @@ fn delivery(alloc: Global, attempt: u64, payload: &[u8]) -> Result<Option<Delive
     }
     Ok(Some(Delivery {
         attempt,
-        copy: CopyNo::new(1),
-        message: MessageNo::new(1),
+        copy: CopyNo::of(1),
+        message: MessageNo::of(1),
         dest: Dest::Queue(Name::read(alloc, b"q1")?),
         payload: Payload::from_bytes(bytes),
     }))
@@ -84,7 +84,7 @@ fn a_pull_shows_payloads_as_text_or_as_base64(rt: HostRuntime) -> Result<(), Fai
     ] {
         let delivery = delivery(alloc, attempt, payload)?.ok_or("too long")?;
         let reply = Reply::Pull {
-            flow: FlowNo::new(flow),
+            flow: FlowNo::of(flow),
             deliveries: Items::one(alloc, delivery)?,
         };
         assert!(rt; shows(alloc, Answered::Gave(reply), unit, text)?);
@@ -102,7 +102,7 @@ fn a_settle_tells_the_fate(rt: HostRuntime) -> Result<(), Fail> {
             r#"{"copy":1,"fate":"accepted","ok":"settle","unit":8}"#,
         ),
         (
-            Fate::Moved(CopyNo::new(2)),
+            Fate::Moved(CopyNo::of(2)),
             10,
             r#"{"copy":1,"fate":"moved","ok":"settle","to":2,"unit":10}"#,
         ),
@@ -113,7 +113,7 @@ fn a_settle_tells_the_fate(rt: HostRuntime) -> Result<(), Fail> {
         ),
     ] {
         let reply = Reply::Settle {
-            copy: CopyNo::new(1),
+            copy: CopyNo::of(1),
             fate,
         };
         assert!(rt; shows(alloc, Answered::Gave(reply), unit, text)?);
@@ -123,8 +123,8 @@ fn a_settle_tells_the_fate(rt: HostRuntime) -> Result<(), Fail> {
 
 fn details(attempts: u64) -> Option<CopyDetails> {
     Some(CopyDetails {
-        endpoint: EndpointNo::new(1),
-        message: MessageNo::new(1),
+        endpoint: EndpointNo::of(1),
+        message: MessageNo::of(1),
         attempts,
     })
 }
@@ -159,7 +159,7 @@ fn a_copy_is_told_with_its_details(rt: HostRuntime) -> Result<(), Fail> {
         ),
     ] {
         let reply = Reply::Copy {
-            copy: CopyNo::new(1),
+            copy: CopyNo::of(1),
             fate,
             details,
         };

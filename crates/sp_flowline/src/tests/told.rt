@@ -1,6 +1,8 @@
 // Tables of lines, each with what reading it comes to, and lines of answers.
 use crate::line::line;
-use crate::read::{ReadError, read};
+use crate::read::read;
+use sp_base::choice::Choice;
+use sp_base::declined::Declined;
 use sp_base::refusal::Refusal;
 use sp_config::setting::Setting;
 use sp_config::value::AttrValue;
@@ -40,7 +42,7 @@ fn asked(alloc: Global, ask: &Ask) -> Result<String, AllocError> {
         ) => format!(in alloc; "bind {}", topic.as_str()),
         Ask::Do(Event::Bind { topic: None, .. }) => String::from_str(alloc, "bind"),
         Ask::Do(Event::Unbind { flow }) => format!(in alloc; "{}", flow.value()),
-        Ask::Do(Event::Pull { count, .. }) => format!(in alloc; "{count}"),
+        Ask::Do(Event::Pull { count, .. }) => format!(in alloc; "{}", count.value()),
         Ask::Do(Event::Settle { copy, .. }) => format!(in alloc; "{}", copy.value()),
         Ask::Look(Query::Copy { copy }) => format!(in alloc; "{}", copy.value()),
         Ask::Look(Query::Tally { endpoint: None }) => String::from_str(alloc, "all"),
@@ -84,8 +86,8 @@ fn shown(alloc: Global, value: &AttrValue) -> Result<String, AllocError> {
 pub fn told(alloc: Global, line: &[u8]) -> Result<String, AllocError> {
     match read(alloc, line) {
         Ok(ask) => asked(alloc, &ask),
-        Err(ReadError::Refused { refusal }) => refused(alloc, &refusal),
-        Err(ReadError::Memory) => Err(AllocError),
+        Err(Declined::Refused(refusal)) => refused(alloc, &refusal),
+        Err(Declined::Memory) => Err(AllocError),
     }
 }
 

@@ -72,8 +72,8 @@ fn a_topic_has_250_bytes_at_most(rt: HostRuntime) -> Result<(), Fail> {
 fn delivery(alloc: Global) -> Result<Delivery, Fail> {
     Ok(Delivery {
         attempt: 1,
-        copy: CopyNo::new(2),
-        message: MessageNo::new(1),
+        copy: CopyNo::of(2),
+        message: MessageNo::of(1),
         dest: Dest::Topic(Topic::read(alloc, b"a/b")?),
         payload: Payload::from_bytes(Bytes::from_vec(Vec::new(alloc))),
     })
@@ -83,7 +83,7 @@ fn delivery(alloc: Global) -> Result<Delivery, Fail> {
 fn a_delivery_shows_its_topic(rt: HostRuntime) -> Result<(), Fail> {
     let alloc = rt.alloc();
     let reply = Reply::Pull {
-        flow: FlowNo::new(1),
+        flow: FlowNo::of(1),
         deliveries: Items::one(alloc, delivery(alloc)?)?,
     };
     assert!(rt; shows(alloc, Answered::Gave(reply), 4, DELIVERY)?);

@@ -5,4 +5,7 @@ use Rattle.sp_copies.specs.History.{is_held}
 use Rattle.sp_copies.proofs.holders.least_held.Goals as goal
 
 pub returns : goal.returns
-returns c = c.copied.ensures ∙ find_from_yields_List (λ x. (x.endpoint == c.args.endpoint) && (x.partition == c.args.partition) && is_held c.args.held.now x.number) _ _ _ c.find.ensures.ran (YieldsList-from_slice c.args.made.now (cc)) (λ x b q k. search (rules, tests))
+returns c = c.copied.ensures ∙ find_from_yields_List
+    (λ x. (x.endpoint == c.args.endpoint) &&
+    (x.partition == c.args.partition) && is_held c.args.held.now x.number) _ _ _ c.find.ensures.ran
+    (YieldsList-from_slice c.args.made.now (cc)) (λ x b q k. search (rules, tests))

@@ -1,5 +1,5 @@
-use Rattle.std.proofs.Common.{[], arith}
-use Rattle.sp_tape.proofs.SoFar.{ends_done, ends_bad, ends_read_fault, ends_memory, goes_on, ends_write_fault, ends_unserved}
+use Rattle.std.proofs.Common.{[], arith, ◌∙◌}
+use Rattle.sp_tape.proofs.SoFar.{ends_done, ends_bad, ends_read_fault, ends_memory, goes_on, ends_write_fault, ends_unwritten}
 use Rattle.sp_tape.proofs.run_tape.run_tape.Goals as goal
 
 pub overflow_sub-offset : goal.overflow_sub-offset
@@ -13,7 +13,7 @@ returns-in-Fault-serve-clause-tape g c =
 pub returns-in-Memory-serve-clause-tape : goal.returns-in-Memory-serve-clause-tape
 returns-in-Memory-serve-clause-tape g c =
     let s = c.loop-number.invariant.so_far in
-    ends_unserved _ _ _ _ _ _ _ [] _ _ _ s (c.in-Memory-serve.ensures.serves _ s.stands)
+    ends_unwritten _ _ _ _ _ _ _ _ _ _ _ s c.in-Found.found c.serve.new.core c.in-Found.ensures.comes (c.in-Memory-serve.ensures.serves _ s.stands)
 
 pub returns-in-End-clause-tape : goal.returns-in-End-clause-tape
 returns-in-End-clause-tape g c =
@@ -36,8 +36,8 @@ loop-number-preserved g c =
     let s = c.loop-number.invariant.so_far in
     record {
       so_far = goes_on _ _ _ _ _ _ _ _ _ _ _ s c.in-Found.found c.serve.new.core c.in-Found.ensures.comes (c.in-Done.ensures.serves _ s.stands);
-      source_later = omega (arith, c.loop-number.invariant.source_later, c.next_entry.ensures.later);
-      sink_later = omega (arith, c.loop-number.invariant.sink_later, c.serve.ensures.later);
+      source_same = c.next_entry.ensures.no_fault (λ e. absurd (cc (e, c.in-Found.is))) ∙ c.loop-number.invariant.source_same;
+      sink_same = c.serve.ensures.no_fault (λ e. absurd (cc (e, c.in-Done.is))) ∙ c.loop-number.invariant.sink_same;
     }
 
 pub returns-clause-tape : goal.returns-clause-tape

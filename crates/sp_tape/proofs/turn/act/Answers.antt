@@ -1,18 +1,21 @@
-use Rattle.std.proofs.Common.{refl}
-use Rattle.sp_tape.specs.declared.entry.Kind.TheVariants.{Http, Rdp, Restart}
-use Rattle.sp_tape.proofs.ActsLemmas.{acts_as, acts_flow}
+use Rattle.std.proofs.Common.{refl, subst, sym}
+use Rattle.sp_tape.specs.Acts.{ActsAs}
+use Rattle.sp_tape.specs.Serves.{StandsAfter}
+use Rattle.sp_tape.specs.declared.entry.Kind.{Kind}
 use Rattle.sp_tape.proofs.turn.act.Goals as goal
 
 pub returns-in-Flow : goal.returns-in-Flow
 returns-in-Flow c L s =
-    let a = c.act_flow.ensures L s in
-    (a.0, acts_flow c.args.entry.now c.in-Flow.is L a.0 c.act_flow.result a.1, a.2)
+    subst (λ (k : Kind). StandsAfter (ActsAs k c.args.entry.now L) c.act_flow.new.core c.act_flow.result) (sym c.in-Flow.is) (c.act_flow.ensures L s)
 
 pub returns-in-Http : goal.returns-in-Http
-returns-in-Http c L s = (L, acts_as c.args.entry.now Http c.in-Http.is L L c.bad.result (c.bad.ensures, refl), s)
+returns-in-Http c L s =
+    subst (λ (k : Kind). StandsAfter (ActsAs k c.args.entry.now L) c.args.core.now c.bad.result) (sym c.in-Http.is) (L, (c.bad.ensures, refl), s)
 
 pub returns-in-Rdp : goal.returns-in-Rdp
-returns-in-Rdp c L s = (L, acts_as c.args.entry.now Rdp c.in-Rdp.is L L c.bad-in-Rdp.result (c.bad-in-Rdp.ensures, refl), s)
+returns-in-Rdp c L s =
+    subst (λ (k : Kind). StandsAfter (ActsAs k c.args.entry.now L) c.args.core.now c.bad-in-Rdp.result) (sym c.in-Rdp.is) (L, (c.bad-in-Rdp.ensures, refl), s)
 
 pub returns-in-Restart : goal.returns-in-Restart
-returns-in-Restart c L s = (L, acts_as c.args.entry.now Restart c.in-Restart.is L L c.bad-in-Restart.result (c.bad-in-Restart.ensures, refl), s)
+returns-in-Restart c L s =
+    subst (λ (k : Kind). StandsAfter (ActsAs k c.args.entry.now L) c.args.core.now c.bad-in-Restart.result) (sym c.in-Restart.is) (L, (c.bad-in-Restart.ensures, refl), s)

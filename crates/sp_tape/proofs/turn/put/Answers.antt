@@ -1,4 +1,4 @@
-use Rattle.std.proofs.Common.{take, drop, sym, arith}
+use Rattle.std.proofs.Common.{take, drop, sym, arith, ◌∙◌}
 use Rattle.std.proofs.Math.Seq.{take-add}
 use Rattle.std.proofs.lemmas.List.{take-append-drop, take_rest}
 use Rattle.std.proofs.lemmas.Grind.{common_steps}
@@ -13,5 +13,5 @@ pub loop-at-preserved : goal.loop-at-preserved
 loop-at-preserved g c = record {
   wrote = rw take-add (rw take_rest at (writes_both _ _ _ _ _ c.loop-at.invariant.wrote c.in_ok-at.ensures.bytes));
   within = grind (arith, common_steps, c.in_ok-at.ensures.within);
-  later = omega (arith, c.loop-at.invariant.later, c.in_ok-at.ensures.cause.later);
+  same = c.in_ok-at.ensures.cause.passed ∙ c.loop-at.invariant.same;
 }

@@ -1,30 +1,47 @@
-use Rattle.std.proofs.Common.{ap, arith}
-use Rattle.sp_copies.specs.History.{with_closed}
+use Rattle.std.proofs.Common.{◌≡◌, ℕ, true, arith}
+use Rattle.sp_copies.specs.History.{History, is_spooled, with_closed}
 use Rattle.sp_copies.specs.Inside.{kept_in}
-use Rattle.sp_copies.proofs.KeptLemmas.{own, same_history}
-use Rattle.sp_copies.proofs.ClosedSound.{closed_sound}
+use Rattle.sp_copies.proofs.Changes.{closed_stands}
+use Rattle.sp_copies.proofs.KeptLemmas.{kept_of, of_each, of_own}
 use Rattle.sp_copies.proofs.Room.{spooled-closed, free-closed}
 use Rattle.sp_copies.proofs.copies.Copies.close.Goals as goal
 
+abbrev IsOpen : ℕ → History → Type 0
+IsOpen copy H = is_spooled H copy ≡ true
+
 pub add-requires : goal.add-requires
 add-requires c =
-    let H = (kept_in c.self.inside).history in
-    omega (arith, spooled-closed H c.args.copy c.args.how c.args.at (c.requires.spooled H (own c.args.self.now (kept_in c.self.inside) c.self.view_is c.self.invariant.sound)), c.self.invariant.to_close)
+    let G = c.self.invariant.history in
+    let a = c.args in
+    let open_now = of_own (IsOpen a.copy)
+    (kept_in c.self.inside) a.self.now c.self.view_is c.requires.spooled G c.self.invariant.stands in
+    omega (arith, spooled-closed G a.copy a.how a.at open_now, c.self.invariant.to_close)
 
 pub invariant_of-self : goal.invariant_of-self
 invariant_of-self c =
-    let H = (kept_in c.self.inside).history in
-    let open_now = c.requires.spooled H (own c.args.self.now (kept_in c.self.inside) c.self.view_is c.self.invariant.sound) in
+    let k = kept_in c.self.inside in
+    let G = c.self.invariant.history in
+    let s = c.self.invariant.stands in
+    let a = c.args in
+    let open_now = of_own (IsOpen a.copy) k a.self.now c.self.view_is c.requires.spooled G s in
     record {
-      sound = rw (c.add.ensures.items, c.remove.ensures.items) (closed_sound H c.args.copy c.args.how c.args.at c.self.invariant.sound open_now);
+      history = with_closed a.copy a.how a.at G;
+      stands = rw (c.add.ensures.items, c.let_go.ensures.items) (closed_stands k a.copy a.how a.at _ G s open_now);
       to_make = c.self.invariant.to_make;
       to_count = c.self.invariant.to_count;
-      to_close = rw c.add.ensures.items (omega (arith, spooled-closed H c.args.copy c.args.how c.args.at open_now, c.self.invariant.to_close, c.add.ensures.room));
-      to_hold = rw (c.add.ensures.items, c.remove.ensures.items) (omega (arith, free-closed H c.args.copy c.args.how c.args.at, c.self.invariant.to_hold, c.remove.ensures.kept));
+      to_close = omega (
+        arith,
+        spooled-closed G a.copy a.how a.at open_now,
+        c.self.invariant.to_close,
+        c.add.ensures.room,
+      );
+      to_hold = omega (arith, free-closed G a.copy a.how a.at, c.self.invariant.to_hold, c.let_go.ensures.kept);
     }
 
 pub returns-clause-closed : goal.returns-clause-closed
-returns-clause-closed c H r = record {
-  history = rw (c.add.ensures.items, c.remove.ensures.items) (ap (with_closed c.args.copy c.args.how c.args.at) (same_history c.args.self.now (kept_in c.self.inside) c.self.view_is H r));
-  sound = closed_sound H c.args.copy c.args.how c.args.at r.sound (c.requires.spooled H r);
-}
+returns-clause-closed c H r =
+    let k = kept_in c.self.inside in
+    let a = c.args in
+    let open_now = of_each (IsOpen a.copy) a.self.now c.requires.spooled H r in
+    rw (c.add.ensures.items, c.let_go.ensures.items)
+    (closed_stands k a.copy a.how a.at _ H (kept_of k a.self.now c.self.view_is H r) open_now)

@@ -1,11 +1,11 @@
 use Rattle.std.proofs.Common.{[], ◌++◌, List, take, sym, ap, ◌∙◌}
 use Rattle.std.specs.List.{cons_option}
-use Rattle.sp_event.specs.declared.answer.Delivery.{Delivery}
-use Rattle.sp_copies.specs.declared.made.MadeCopy.{MadeCopy}
-use Rattle.sp_ledger.specs.Ledger.{message_of}
-use Rattle.sp_ledger.specs.Pull.{delivered, deliveries}
 use Rattle.std.specs.Prelude.{option_map, Option}
-use Rattle.sp_core.proofs.Handed.{deliveries_more}
+use Rattle.sp_copies.specs.declared.made.MadeCopy.{MadeCopy}
+use Rattle.sp_event.specs.declared.answer.Delivery.{Delivery}
+use Rattle.sp_ledger.specs.Ledger.{message_of}
+use Rattle.sp_ledger.specs.OnFlows.{delivered, deliveries}
+use Rattle.sp_core.proofs.Delivered.{deliveries_more}
 use Rattle.sp_core.proofs.state.Core.deliveries.Goals as goal
 
 pub loop-copy-preserved : goal.loop-copy-preserved

@@ -1,6 +1,6 @@
 use Rattle.std.proofs.Common.{◌≡◌, take}
 use Rattle.sp_ledger.specs.Ledger.{Ledger}
-use Rattle.sp_ledger.specs.Pull.{deliveries}
+use Rattle.sp_ledger.specs.OnFlows.{deliveries}
 use Rattle.sp_core.specs.Stands.{Stands}
 use Rattle.sp_core.proofs.state.Core.deliveries.Given as goal
 

@@ -1,0 +1,4 @@
+pub mod Flow
+pub mod Flows
+pub mod Inside
+pub mod InsideFlows

@@ -1,0 +1,7 @@
+//! The flows that callers have bound to endpoints.
+#![tactic(auto)]
+
+pub mod flow;
+pub mod flows;
+#[cfg(test)]
+mod tests;

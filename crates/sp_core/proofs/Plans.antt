@@ -1,0 +1,106 @@
+-- Plans of several changes.
+use Rattle.sp_access.specs.Flow.{FlowView}
+use Rattle.sp_access.specs.Flows.{flow_count, flow_of}
+use Rattle.sp_base.specs.declared.refusal.Refusal.TheVariants.{BadSubscription, IdsSpent, InUse, UnknownEndpoint, UnknownFlow}
+use Rattle.sp_copies.specs.Counts.{spooled_count}
+use Rattle.sp_endpoint.specs.Endpoints.{named}
+use Rattle.sp_base.specs.declared.refusal.Kind.TheVariants as kinds
+use Rattle.sp_base.specs.declared.refusal.Refusal.{Refusal}
+use Rattle.sp_copies.specs.declared.closed.Cause.TheVariants.{TopicChanged}
+use Rattle.sp_copies.specs.declared.closed.Closing.TheVariants.{Discarded}
+use Rattle.sp_copies.specs.declared.made.MadeCopy.{MadeCopy}
+use Rattle.sp_core.proofs.Deciding.{is_planned, is_refused, on_one}
+use Rattle.sp_core.proofs.Spread.{first_of_two}
+use Rattle.sp_core.specs.Decided.{verdict}
+use Rattle.sp_plan.specs.Plan.{PlanState}
+use Rattle.sp_endpoint.specs.Endpoint.{EndpointView}
+use Rattle.sp_event.specs.declared.answer.Reply.TheVariants as replies
+use Rattle.sp_ledger.proofs.Decided.{passes, passes-append}
+use Rattle.sp_ledger.specs.Changes.{Change, binds, closes, holds}
+use Rattle.sp_ledger.specs.Ledger.{Ledger}
+use Rattle.sp_ledger.specs.OnFlows.{bind, deliveries, fits_kind, is_another, new_topic, outdated, pull, pulled, topic_check}
+use Rattle.sp_ledger.specs.Step.{Check, Step, begun, does, first_refusal, is_copy_spent, is_spent, is_unit, on_found, rule, unit_check, unless}
+use Rattle.std.proofs.Common.{ap, arith, refl, sym, ◌∙◌}
+use Rattle.std.proofs.lemmas.Bool.{ltb-false}
+use Rattle.std.specs.Prelude.{Bool, Err, List, None, Ok, Option, Result, Some, [], cond, false, length, map, nat_lt, not, true, ℕ, ◌&&◌, ◌^◌, ◌++◌, ◌+◌, ◌==◌, ◌∷◌, ◌≡◌, ◌≤◌}
+
+-- one function after another
+pub map_twice : {X Y Z : Type 0} (f : Y → Z) (g : X → Y) (xs : List X) → map (λ x. f (g x)) xs ≡ map f (map g xs)
+map_twice f g [] = refl
+map_twice {X} {Y} {Z} f g (x ∷ xs) = ap (λ (zs : List Z). f (g x) ∷ zs) (map_twice f g xs)
+
+-- where a change comes last, something changes
+pub last_unit : (cs : List Change) (c : Change) → is_unit (cs ++ c ∷ []) ≡ true
+last_unit [] c = refl
+last_unit (d ∷ cs) c = refl
+
+-- the unit's check where something changes
+pub unit_is : (L : Ledger) (changes : List Change) (checks : List Check) → is_unit changes ≡ true →
+    first_refusal (checks ++ unit_check L changes ∷ []) ≡ first_refusal (checks ++ is_spent L.next.unit kinds.Unit ∷ [])
+unit_is L changes checks is = ap (λ (b : Bool). first_refusal (checks ++ rule (Rattle.std.specs.Prelude.◌&&◌ b (Rattle.std.specs.Prelude.nat_le Rattle.sp_ledger.specs.Limits.spent L.next.unit)) (Rattle.sp_base.specs.declared.refusal.Refusal.TheVariants.IdsSpent kinds.Unit) ∷ [])) is
+
+pub on_plain : (L : Ledger) (check : Check) (s : Step) → check.broken ≡ false → verdict L (unless check s) ≡ verdict L s
+on_plain L check s plain = ap (λ (b : Bool). verdict L (cond b (Rattle.sp_ledger.specs.Step.lacks check.refusal) s)) plain
+
+-- a first rule that isn't broken
+pub first_passes : (check : Check) (rest : List Check) → None ≡ first_refusal (check ∷ []) → first_refusal (check ∷ rest) ≡ first_refusal rest
+first_passes check rest none = first_of_two (check ∷ []) rest (sym none)
+
+-- numbers are left for the copies of a publish that isn't refused
+pub numbers_left : (L : Ledger) (first : Check) (quotas : List Check) (n : ℕ) →
+    None ≡ first_refusal (first ∷ quotas ++ is_spent L.next.message kinds.Message ∷ is_copy_spent (L.copies.next + n) ∷ is_spent L.next.unit kinds.Unit ∷ []) →
+    L.copies.next + n ≤ 2 ^ 62
+numbers_left L first quotas n none =
+    let numbers = is_spent L.next.message kinds.Message ∷ is_copy_spent (L.copies.next + n) ∷ is_spent L.next.unit kinds.Unit ∷ [] in
+    let all = passes (first ∷ quotas ++ numbers) (sym none) in
+    let both = passes-append quotas numbers all.1 in
+    let room = ltb-false (2 ^ 61 + 1) (L.copies.next + n) both.1.1.0 in
+    omega (arith, room)
+
+-- a bind that is refused by a rule on the endpoint or on numbers
+pub bind_refused : (L : Ledger) (caller name : List ℕ) (topic : Option (List ℕ)) (e : EndpointView) (r : Refusal) →
+    (topic_check topic).broken ≡ false → Some e ≡ named name L.endpoints →
+    Some r ≡ first_refusal (rule (not (fits_kind e.kind topic)) (BadSubscription 0)
+    ∷ rule (is_another e.topic topic && not (flow_count L.flows e.number == 0))
+    (InUse (flow_count L.flows e.number) (spooled_count L.copies (Some e.number)))
+    ∷ is_spent L.next.flow kinds.Flow ∷ is_spent L.next.unit kinds.Unit ∷ []) →
+    verdict L (bind caller name topic L) ≡ Err r
+bind_refused L caller name topic e r plain found some =
+    on_plain L (topic_check topic) (on_found (named name L.endpoints) (UnknownEndpoint name) on_endpoint) plain
+    ∙ (on_one L (named name L.endpoints) e (UnknownEndpoint name) on_endpoint found
+    ∙ is_refused L (checks e) (changes e) (replies.Bind e.name L.next.flow (length (outdated L e topic))) r
+    (some ∙ sym (unit_is L (changes e) (checks e)
+    (last_unit (map (λ (c : MadeCopy). closes c.number (Discarded TopicChanged)) (outdated L e topic) ++ new_topic e topic) _))))
+  where
+    checks : EndpointView → List Check
+    checks x =
+        rule (not (fits_kind x.kind topic)) (BadSubscription 0)
+        ∷ rule (is_another x.topic topic && not (flow_count L.flows x.number == 0))
+        (InUse (flow_count L.flows x.number) (spooled_count L.copies (Some x.number)))
+        ∷ is_spent L.next.flow kinds.Flow
+        ∷ []
+
+    changes : EndpointView → List Change
+    changes x =
+        map (λ (c : MadeCopy). closes c.number (Discarded TopicChanged)) (outdated L x topic)
+        ++ new_topic x topic
+        ++ binds (record { number = L.next.flow; endpoint = x.number; caller = caller; selector = None })
+        ∷ []
+
+    on_endpoint : EndpointView → Step
+    on_endpoint x = does (checks x) (changes x) (replies.Bind x.name L.next.flow (length (outdated L x topic)))
+
+-- a pull that isn't refused
+pub pull_planned : (L : Ledger) (moment : ℕ) (caller : List ℕ) (flow count : ℕ) (f : FlowView) (copies : List MadeCopy) (plan : PlanState) →
+    Some f ≡ flow_of L.flows caller flow → copies ≡ pulled (begun moment L) f count →
+    None ≡ first_refusal (unit_check L (map (λ c. holds c.number flow) copies) ∷ []) →
+    plan ≡ record { changes = map (λ c. holds c.number flow) copies; reply = replies.Pull flow (deliveries L copies) } →
+    verdict L (pull caller flow count (begun moment L)) ≡ Ok plan
+pull_planned L moment caller flow count f copies plan found chosen none is =
+    on_one L (flow_of L.flows caller flow) f (UnknownFlow flow) (λ g. on_flow (pulled (begun moment L) g count)) found
+    ∙ (ap (λ (cs : List MadeCopy). verdict L (on_flow cs)) (sym chosen)
+    ∙ (is_planned L [] (map (λ (c : MadeCopy). holds c.number flow) copies) (replies.Pull flow (deliveries (begun moment L) copies)) none
+    ∙ ap (λ (p : PlanState). Ok p) (sym is)))
+  where
+    on_flow : List MadeCopy → Step
+    on_flow cs = does [] (map (λ (c : MadeCopy). holds c.number flow) cs) (replies.Pull flow (deliveries (begun moment L) cs))

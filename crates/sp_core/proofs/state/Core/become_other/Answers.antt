@@ -1,0 +1,12 @@
+use Rattle.sp_core.proofs.Standing.{became, standing}
+use Rattle.sp_core.specs.Inside.{core_state}
+use Rattle.sp_ledger.specs.Changes.{changed, becomes}
+use Rattle.sp_core.proofs.state.Core.become_other.Goals as goal
+
+pub returns-clause-changed : goal.returns-clause-changed
+returns-clause-changed c L s may = became (core_state c.self.inside) L (standing _ _ L c.self.view_is s) c.replace.new.self c.args.endpoint may c.replace.ensures.items
+
+pub invariant_of-self : goal.invariant_of-self
+invariant_of-self c =
+    let m = c.requires.may in
+    record { ledger = changed (becomes c.args.endpoint) m.0; stands = returns-clause-changed c m.0 m.1 m.2 }

@@ -1,0 +1,25 @@
+use Rattle.sp_copies.specs.declared.made.MadeCopy.{MadeCopy}
+use Rattle.sp_copies.specs.declared.closed.Cause.TheVariants.{TopicChanged}
+use Rattle.sp_copies.specs.declared.closed.Closing.TheVariants.{Discarded}
+use Rattle.sp_endpoint.specs.Endpoint.{EndpointView}
+use Rattle.sp_event.specs.declared.answer.Reply.TheVariants as replies
+use Rattle.sp_ledger.specs.Changes.{binds, closes}
+use Rattle.sp_ledger.specs.OnFlows.{new_topic, outdated}
+use Rattle.std.proofs.Common.{ap, ◌∙◌}
+use Rattle.std.specs.Prelude.{List, None, [], length, map, ◌++◌, ◌∷◌, ◌≡◌}
+use Rattle.sp_core.proofs.state.Core.bind_plan.Goals as goal
+
+pub returns : goal.returns
+returns c L s =
+    let e = c.args.endpoint.now in
+    let number : c.next_flow-number.result ≡ L.next.flow = c.next_flow-number.ensures L s in
+    let old : c.as_slice.result.now ≡ outdated L e c.args.topic.now = c.as_slice.ensures ∙ c.in_ok-copies.ensures L s in
+    let many : c.len.result ≡ length (outdated L e c.args.topic.now) = c.len.ensures ∙ ap (λ (cs : List MadeCopy). length cs) (c.in_ok-copies.ensures L s) in
+    let flow : c.in_ok-flow.flow ≡ record { number = L.next.flow; endpoint = e.number; caller = c.args.caller.now; selector = None } =
+    c.in_ok-flow.ensures ∙ (λ j. record { number = number j; endpoint = e.number; caller = c.args.caller.now; selector = None }) in
+    let name : c.in_ok-copy.field-0 ≡ e.name = c.in_ok-copy.ensures ∙ ap (λ (x : EndpointView). x.name) c.endpoint.view_is in
+    λ i. record {
+      changes = (c.in_ok-changes.ensures
+          ∙ (λ j. map (λ (k : MadeCopy). closes k.number (Discarded TopicChanged)) (old j) ++ new_topic e c.args.topic.now ++ binds (flow j) ∷ [])) i;
+      reply = replies.Bind (name i) (number i) (many i);
+    }

@@ -1,0 +1,28 @@
+use Rattle.sp_core.proofs.Standing.{may_be_shared, published, standing}
+use Rattle.sp_core.specs.Inside.{core_state}
+use Rattle.sp_core.specs.State.{CoreState}
+use Rattle.sp_ledger.specs.Changes.{changed, publishes}
+use Rattle.std.proofs.Common.{ap, arith, subst, sym, ◌∙◌}
+use Rattle.std.specs.Prelude.{ℕ, ◌+◌, ◌<◌, ◌≤◌}
+use Rattle.std.specs.Prelude.{length}
+use Rattle.sp_core.proofs.state.Core.publish.Goals as goal
+
+pub add-requires : goal.add-requires
+add-requires c = subst (λ (k : CoreState). 0 < k.messages.room) (sym c.self.view_is) (let r = c.requires.room.messages in omega (arith, r))
+
+pub publish-requires-clause-room : goal.publish-requires-clause-room
+publish-requires-clause-room c = rw c.as_slice.ensures (subst (λ (k : CoreState). length c.args.shares ≤ k.copies.spare) (sym c.self.view_is) c.requires.room.copies)
+
+pub publish-requires-clause-may : goal.publish-requires-clause-may
+publish-requires-clause-may c =
+    let m = c.requires.may in
+    let s = standing _ _ m.0 c.self.view_is m.1 in
+    rw c.as_slice.ensures (m.0.copies, s.copies, may_be_shared m.0 s.ledger.sound c.args.message c.args.shares m.2)
+
+pub returns-clause-changed : goal.returns-clause-changed
+returns-clause-changed c L s may = published (core_state c.self.inside) L (standing _ _ L c.self.view_is s) c.add.new.self c.publish.new.self c.of-self-inside.result c.args.message c.args.shares may c.add.ensures.items (rw c.as_slice.ensures at c.publish.ensures.made) (c.of-self-inside.ensures ∙ ap (λ (n : ℕ). n + 1) c.value.ensures.value)
+
+pub invariant_of-self : goal.invariant_of-self
+invariant_of-self c =
+    let m = c.requires.may in
+    record { ledger = changed (publishes c.args.message c.args.shares) m.0; stands = returns-clause-changed c m.0 m.1 m.2 }

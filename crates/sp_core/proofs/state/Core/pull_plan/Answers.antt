@@ -1,0 +1,13 @@
+use Rattle.sp_plan.proofs.EachChange.{each_change}
+use Rattle.sp_plan.specs.Plan.{changes_of}
+use Rattle.sp_copies.specs.declared.made.MadeCopy.{MadeCopy}
+use Rattle.sp_plan.specs.declared.change.Change.TheVariants.{Holds}
+use Rattle.sp_event.specs.declared.answer.Reply.TheVariants as replies
+use Rattle.std.proofs.Common.{ap, ◌∙◌}
+use Rattle.sp_core.proofs.state.Core.pull_plan.Goals as goal
+
+pub returns : goal.returns
+returns c L s = λ i. record {
+  changes = (ap changes_of c.in_ok-changes.ensures ∙ each_change {X = MadeCopy} (λ k. Holds k.number c.args.flow) c.args.copies.now) i;
+  reply = replies.Pull c.args.flow (c.in_ok-deliveries.ensures L s i);
+}

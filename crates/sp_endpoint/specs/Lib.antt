@@ -1,0 +1,4 @@
+pub mod Endpoint
+pub mod Endpoints
+pub mod Inside
+pub mod Takers

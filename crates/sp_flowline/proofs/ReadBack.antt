@@ -1,0 +1,132 @@
+-- Each request that can be written is read back as itself.
+use Rattle.std.proofs.Common.{◌≡◌, ◌∙◌, ◌≤◌, ◌^◌, ℕ, Bool, true, false, List, Option, Some, None, Result, Ok, refl, sym, ap, ap₂, arith, codes}
+use Rattle.std.specs.Prelude.{◌&&◌, if◌then◌else◌, length, nat_le}
+use Rattle.std.specs.Option.{option_map, option_and_then}
+use Rattle.std.specs.Str.{is_utf8}
+use Rattle.std.proofs.lemmas.Bool.{cond-true}
+use Rattle.std.proofs.lemmas.Bool.Decides.{nat_tests}
+use Rattle.serde_json.specs.Data.{string, object, put}
+use Rattle.sp_base.specs.declared.refusal.Refusal.{Refusal}
+use Rattle.sp_base.specs.declared.refusal.Refusal.TheVariants.{BadTopic, BadSubscription}
+use Rattle.sp_base.specs.Name.{is_name}
+use Rattle.sp_base.specs.Topic.{IsTopic}
+use Rattle.sp_config.specs.declared.kind.EndpointKind.{EndpointKind}
+use Rattle.sp_config.specs.declared.kind.EndpointKind.TheVariants as kinds
+use Rattle.sp_config.specs.declared.setting.Setting.{Setting}
+use Rattle.sp_message.specs.declared.message.Dest.{Dest}
+use Rattle.sp_message.specs.declared.message.Dest.TheVariants.{Topic, Queue}
+use Rattle.sp_message.specs.declared.message.Message.{Message}
+use Rattle.sp_event.specs.declared.request.Ask.TheVariants.{Do, Look}
+use Rattle.sp_event.specs.declared.request.Event.{Event}
+use Rattle.sp_event.specs.declared.request.Event.TheVariants as events
+use Rattle.sp_event.specs.declared.request.Outcome.TheVariants.{Accepted}
+use Rattle.sp_event.specs.declared.request.Query.TheVariants as queries
+use Rattle.sp_topic.specs.Subscription.{IsSubscription, is_exception}
+use Rattle.sp_json.specs.Deliveries.{with_destination}
+use Rattle.sp_json.specs.Fields.{within, name_from}
+use Rattle.sp_json.specs.Parts.{formed, unless, and_then}
+use Rattle.sp_json.specs.Payloads.{AreBytes, base64_of, from_base64, payload_from}
+use Rattle.sp_json.specs.Subscriptions.{subscription_from}
+use Rattle.sp_flowline.specs.declared.mode.Mode.TheVariants.{Persistent}
+use Rattle.sp_flowline.specs.Asks.{done, looked}
+use Rattle.sp_flowline.specs.FlowEvents.{plain_of}
+use Rattle.sp_flowline.specs.Publishes.{message_to, sent, topic_from}
+use Rattle.sp_flowline.specs.Request.{reading_of}
+use Rattle.sp_flowline.specs.Written.{event_data, of_op, MayHave, IsSendable, EventCanBeWritten, RequestsReadBack}
+use Rattle.sp_json.proofs.PayloadLemmas.{base64_back}
+use Rattle.sp_flowline.proofs.SettingsBack.{name_back, settings_back}
+
+bounded : (least greatest n : ℕ) → least ≤ n → n ≤ greatest → (nat_le least n && nat_le n greatest) ≡ true
+bounded least greatest n h k = grind (arith, nat_tests)
+
+within_back : (least greatest n : ℕ) → least ≤ n → n ≤ greatest → within least greatest n ≡ Some n
+within_back least greatest n h k = cond-true _ _ _ (bounded least greatest n h k)
+
+number_back : (n : ℕ) → n ≤ 2 ^ 62 → within 0 (2 ^ 62) n ≡ Some n
+number_back n h = within_back 0 (2 ^ 62) n (omega arith) h
+
+text_back : (text : List ℕ) → IsSubscription text → subscription_from text ≡ Ok text
+text_back text h = ap (λ (fault : Option ℕ). unless (option_map BadSubscription fault) text) h
+
+plain_back : (text : List ℕ) → IsSubscription text → is_exception text ≡ false → and_then (subscription_from text) plain_of ≡ Ok text
+plain_back text h k = ap (λ (r : Result (List ℕ) Refusal). and_then r plain_of) (text_back text h) ∙ rw k refl
+
+topic_back : (topic : List ℕ) → IsTopic topic → topic_from topic ≡ Ok (Topic topic)
+topic_back topic h = ap (λ (fault : Option ℕ). unless (option_map BadTopic fault) (Topic topic)) h
+
+payload_back : (bytes : List ℕ) → length bytes ≤ 8388608 → payload_from bytes ≡ Some bytes
+payload_back bytes h = cond-true _ _ _ (short (length bytes) h)
+  where
+    short : (n : ℕ) → n ≤ 8388608 → nat_le n 8388608 ≡ true
+    short n k = grind (arith, nat_tests)
+
+provision : (endpoint : List ℕ) (kind : EndpointKind) (settings : List Setting) → is_name endpoint ≡ true → MayHave kind settings
+    → reading_of (event_data (events.Provision endpoint kind settings)) ≡ Ok (Do (events.Provision endpoint kind settings))
+provision endpoint kinds.Queue settings n h =
+    ap₂ (λ (name : Option (List ℕ)) (given : Result (List Setting) Refusal). done (and_then (formed name) (λ name. and_then given (λ given. Ok (events.Provision name kinds.Queue given)))))
+    (name_back endpoint n) (settings_back kinds.Queue settings h)
+provision endpoint kinds.TopicEndpoint settings n h =
+    ap₂ (λ (name : Option (List ℕ)) (given : Result (List Setting) Refusal). done (and_then (formed name) (λ name. and_then given (λ given. Ok (events.Provision name kinds.TopicEndpoint given)))))
+    (name_back endpoint n) (settings_back kinds.TopicEndpoint settings h)
+
+bind : (endpoint : List ℕ) (topic : Option (List ℕ)) → EventCanBeWritten (events.Bind endpoint topic)
+    → reading_of (event_data (events.Bind endpoint topic)) ≡ Ok (Do (events.Bind endpoint topic))
+bind endpoint None h =
+    ap (λ (name : Option (List ℕ)). done (and_then (formed name) (λ name. Ok (events.Bind name None)))) (name_back endpoint h.0)
+bind endpoint (Some topic) h =
+    ap₂ (λ (name : Option (List ℕ)) (text : Result (List ℕ) Refusal). done (and_then (formed name) (λ name. and_then (and_then text (λ topic. Ok (Some topic))) (λ topic. Ok (events.Bind name topic)))))
+    (name_back endpoint h.0) (plain_back topic h.1.0 h.1.1)
+
+-- a publish, whose payload the fields give
+to_topic : (topic payload : List ℕ) (given : Option (List ℕ)) → IsTopic topic → given ≡ Some payload
+    → done (and_then (formed given) (λ (p : List ℕ). sent Persistent (topic_from topic) p)) ≡ Ok (Do (events.Publish (message_to (Topic topic) payload)))
+to_topic topic payload given s g =
+    ap₂ (λ (dest : Result Dest Refusal) (given : Option (List ℕ)). done (and_then (formed given) (λ (p : List ℕ). sent Persistent dest p))) (topic_back topic s) g
+
+to_queue : (name payload : List ℕ) (given : Option (List ℕ)) → is_name name ≡ true → given ≡ Some payload
+    → done (and_then (formed (option_map (λ (queue : List ℕ). Ok (Queue queue)) (name_from name))) (λ dest. and_then (formed given) (λ (p : List ℕ). sent Persistent dest p))) ≡ Ok (Do (events.Publish (message_to (Queue name) payload)))
+to_queue name payload given s g =
+    ap₂ (λ (found given : Option (List ℕ)). done (and_then (formed (option_map (λ (queue : List ℕ). Ok (Queue queue)) found)) (λ dest. and_then (formed given) (λ (p : List ℕ). sent Persistent dest p)))) (name_back name s) g
+
+payload64_back : (bytes : List ℕ) → AreBytes bytes → length bytes ≤ 8388608 → option_and_then payload_from (from_base64 (base64_of bytes)) ≡ Some bytes
+payload64_back bytes b l = ap (option_and_then payload_from) (base64_back bytes b) ∙ payload_back bytes l
+
+published : (dest : Dest) (payload : List ℕ) (text : Bool) → IsSendable dest → length payload ≤ 8388608 → AreBytes payload
+    → reading_of (object (if text then put (codes "payload") (string payload) (with_destination dest (of_op (codes "publish"))) else put (codes "payload64") (string (base64_of payload)) (with_destination dest (of_op (codes "publish"))))) ≡ Ok (Do (events.Publish (message_to dest payload)))
+published (Topic topic) payload true s l b = to_topic topic payload (payload_from payload) s (payload_back payload l)
+published (Topic topic) payload false s l b = to_topic topic payload (option_and_then payload_from (from_base64 (base64_of payload))) s (payload64_back payload b l)
+published (Queue name) payload true s l b = to_queue name payload (payload_from payload) s (payload_back payload l)
+published (Queue name) payload false s l b = to_queue name payload (option_and_then payload_from (from_base64 (base64_of payload))) s (payload64_back payload b l)
+
+event_back : (event : Event) → EventCanBeWritten event → reading_of (event_data event) ≡ Ok (Do event)
+event_back (events.Provision endpoint kind settings) h = provision endpoint kind settings h.0 h.1
+event_back (events.Deprovision endpoint) h =
+    ap (λ (name : Option (List ℕ)). done (formed (option_map events.Deprovision name))) (name_back endpoint h)
+event_back (events.Change endpoint settings) h =
+    ap₂ (λ (name : Option (List ℕ)) (given : Result (List Setting) Refusal). done (and_then (formed name) (λ name. and_then given (λ given. Ok (events.Change name given)))))
+    (name_back endpoint h.0) (settings_back kinds.Queue settings h.1)
+event_back (events.Subscribe endpoint text) h =
+    ap₂ (λ (name : Option (List ℕ)) (text : Result (List ℕ) Refusal). done (and_then (formed name) (λ name. and_then text (λ text. Ok (events.Subscribe name text)))))
+    (name_back endpoint h.0) (text_back text h.1)
+event_back (events.Unsubscribe endpoint text) h =
+    ap₂ (λ (name : Option (List ℕ)) (text : Result (List ℕ) Refusal). done (and_then (formed name) (λ name. and_then text (λ text. Ok (events.Unsubscribe name text)))))
+    (name_back endpoint h.0) (text_back text h.1)
+event_back (events.Publish m) h =
+    published m.dest m.payload (is_utf8 m.payload) h.1 h.2 h.3 ∙ ap (λ (n : Message). Ok (Do (events.Publish n))) (sym h.0)
+event_back (events.Bind endpoint topic) h = bind endpoint topic h
+event_back (events.Unbind flow) h =
+    ap (λ (flow : Option ℕ). done (formed (option_map events.Unbind flow))) (number_back flow h)
+event_back (events.Pull flow count) h =
+    ap₂ (λ (flow count : Option ℕ). done (formed (option_and_then (λ flow. option_map (events.Pull flow) count) flow)))
+    (number_back flow h.0) (within_back 1 64 count h.1 h.2)
+event_back (events.Settle flow copy Accepted) h =
+    ap₂ (λ (flow copy : Option ℕ). done (formed (option_and_then (λ flow. option_and_then (λ copy. option_map (events.Settle flow copy) (Some Accepted)) copy) flow)))
+    (number_back flow h.0) (number_back copy h.1)
+
+pub read_back : RequestsReadBack
+read_back (Do event) h = event_back event h
+read_back (Look (queries.Tally None)) h = refl
+read_back (Look (queries.Tally (Some endpoint))) h =
+    ap (λ (name : Option (List ℕ)). looked (formed (option_map queries.Tally (option_map Some name)))) (name_back endpoint h)
+read_back (Look (queries.Copy copy)) h =
+    ap (λ (copy : Option ℕ). looked (formed (option_map queries.Copy copy))) (number_back copy h)

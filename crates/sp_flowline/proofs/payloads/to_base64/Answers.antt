@@ -1,6 +1,0 @@
-use Rattle.sp_flowline.specs.Payloads.{base64_of}
-use Rattle.sp_flowline.proofs.payloads.to_base64.Goals as goal
-
-pub returns : goal.returns
-unfolding base64_of
-returns c = c.encode.ensures.text

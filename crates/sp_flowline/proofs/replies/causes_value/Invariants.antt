@@ -1,8 +1,0 @@
-use Rattle.std.proofs.Common.{◌≡◌, fold, take}
-use Rattle.serde_json.specs.Data.{no_members}
-use Rattle.serde_json.specs.View.{members_view}
-use Rattle.sp_flowline.specs.Replies.{with_cause}
-use Rattle.sp_flowline.proofs.replies.causes_value.Given as goal
-
-abbrev pub invariant-loop-counted : goal.invariant-loop-counted
-invariant-loop-counted l = members_view l.map.entries ≡ fold with_cause no_members (take l.counted-index l.counts)

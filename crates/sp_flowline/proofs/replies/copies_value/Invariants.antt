@@ -1,7 +1,0 @@
-use Rattle.std.proofs.Common.{◌≡◌, map, take}
-use Rattle.serde_json.specs.View.{view}
-use Rattle.sp_flowline.specs.Replies.{told_data}
-use Rattle.sp_flowline.proofs.replies.copies_value.Given as goal
-
-abbrev pub invariant-loop-told : goal.invariant-loop-told
-invariant-loop-told l = map view l.values.items ≡ map told_data (take l.told-index l.copies)

@@ -1,0 +1,5 @@
+pub mod AttributeLemmas
+pub mod Keys
+pub mod PayloadLemmas
+pub mod Texts
+pub mod Whole

@@ -1,0 +1,11 @@
+pub mod Attributes
+pub mod Deliveries
+pub mod Fates
+pub mod Fields
+pub mod Members
+pub mod Names
+pub mod Parts
+pub mod Payloads
+pub mod Refusals
+pub mod Subscriptions
+pub mod Told

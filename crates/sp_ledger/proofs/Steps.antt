@@ -1,0 +1,390 @@
+-- The changes of each step are allowed, one after another.
+use Rattle.sp_access.specs.Flows.{flow_count, flow_of}
+use Rattle.sp_access.specs.Flow.{FlowView}
+use Rattle.sp_base.specs.Name.{is_caller}
+use Rattle.sp_base.specs.declared.refusal.Kind.TheVariants as kinds
+use Rattle.sp_base.specs.declared.refusal.Refusal.TheVariants.{BadSubscription, InUse, UnknownEndpoint, UnknownFlow}
+use Rattle.sp_config.proofs.Settled.{defaults_in_range}
+use Rattle.sp_config.specs.Attributes.{defaults, quota_of}
+use Rattle.sp_config.specs.Settings.{with_settings}
+use Rattle.sp_config.specs.declared.kind.EndpointKind.{EndpointKind}
+use Rattle.sp_config.specs.declared.setting.Setting.{Setting}
+use Rattle.sp_copies.specs.Counts.{spooled_count}
+use Rattle.sp_copies.specs.History.{History, held_by, is_held_by, is_made, is_open_in, is_spooled, open_copies}
+use Rattle.sp_copies.specs.History.{used_bytes}
+use Rattle.sp_copies.specs.declared.closed.Cause.TheVariants.{TopicChanged}
+use Rattle.sp_copies.specs.declared.closed.Closing.TheVariants as closings
+use Rattle.sp_copies.specs.declared.held.CopyAttempts.{CopyAttempts}
+use Rattle.sp_copies.specs.declared.held.HeldCopy.{HeldCopy}
+use Rattle.sp_copies.specs.declared.made.MadeCopy.{MadeCopy}
+use Rattle.sp_endpoint.specs.Endpoint.{EndpointView}
+use Rattle.sp_endpoint.specs.Endpoints.{is_queue, is_there, named, queue_named}
+use Rattle.sp_endpoint.specs.Takers.{takers}
+use Rattle.sp_event.specs.declared.answer.Reply.{Reply}
+use Rattle.sp_event.specs.declared.answer.Reply.TheVariants as replies
+use Rattle.sp_event.specs.declared.request.Event.{Event}
+use Rattle.sp_event.specs.declared.request.Event.TheVariants as events
+use Rattle.sp_event.specs.declared.request.Outcome as settling
+use Rattle.sp_ledger.proofs.Chosen.{pairs_made}
+use Rattle.sp_ledger.proofs.CopiesKept.{kept_of}
+use Rattle.sp_ledger.proofs.Decided.{OnPassed, Passes, each_passes, passed_on_found, passed_unless, passed_weaker}
+use Rattle.sp_ledger.proofs.Decided.{parts_of, passes-append, where_accepted}
+use Rattle.sp_ledger.proofs.EachKind.{begun_sound, changes_sound, units_after}
+use Rattle.sp_ledger.proofs.EndpointsKept.{is_there_in_place}
+use Rattle.sp_ledger.proofs.Fields.{allowed_keep_ranges, endpoint_found, may_become, new_suits, quota_below}
+use Rattle.sp_ledger.proofs.Fields.{settings_suit, texts_suit, topic_suits}
+use Rattle.sp_ledger.proofs.GivenBack.{held_by_held, held_by_rises, none_held}
+use Rattle.sp_ledger.proofs.HandedOut.{in_endpoint, pulled_free, pulled_in, pulled_rise}
+use Rattle.sp_ledger.proofs.Listed.{All-any, All-both, All-kept, and_both, and_left, and_right, any_found, any_self}
+use Rattle.sp_ledger.proofs.Listed.{find_passes, lesser_is_not, none_found, not_false}
+use Rattle.sp_ledger.proofs.OneByOne.{allowed_append}
+use Rattle.sp_ledger.proofs.OneKind.{close_allowed, closes_all, free_allowed, frees_all, hold_allowed}
+use Rattle.sp_ledger.proofs.Taken.{takers_all, takers_apart}
+use Rattle.sp_ledger.specs.Allowed.{AreAllowed, IsShare, MayBecome, MayBind, changes_of}
+use Rattle.sp_ledger.specs.Changes.{Change, Share, all_changed, binds, becomes, closes, frees, unbinds}
+use Rattle.sp_ledger.specs.Events.{outcome, step}
+use Rattle.sp_ledger.specs.Ledger.{Ledger}
+use Rattle.sp_ledger.specs.Limits.{last_copy, most_endpoints, most_subscriptions, spent}
+use Rattle.sp_ledger.specs.OnEndpoints.{change_step, deprovision, provision, subscribe, unsubscribe}
+use Rattle.sp_ledger.specs.OnFlows.{bind, fits_kind, is_another, new_topic, outdated, pull, pulled, settle}
+use Rattle.sp_ledger.specs.OnFlows.{topic_check, unbind}
+use Rattle.sp_ledger.specs.One.{is_bound_for}
+use Rattle.sp_ledger.specs.Publish.{publish, quota_check, share_for}
+use Rattle.sp_ledger.specs.Sound.{IsEndpoint, IsLedger, IsSound}
+use Rattle.sp_ledger.specs.Step.{Step, accepted, begun, does, is_copy_spent, is_spent, on_found}
+use Rattle.sp_message.specs.Size.{size_of}
+use Rattle.sp_message.specs.declared.message.Message.{Message}
+use Rattle.std.proofs.Common.{append_assoc, arith, length-append, refl, subst, sym}
+use Rattle.std.proofs.lemmas.Bool.{eq-eqb, eqb-true, leb-false, ltb-false}
+use Rattle.std.proofs.lemmas.List.{length-map}
+use Rattle.std.proofs.lemmas.List.Elements.{All-filter, All-map, All-weaker}
+use Rattle.std.proofs.lemmas.List.Kept.{AllPairs-filter}
+use Rattle.std.proofs.lemmas.List.Sums.{count_by-le-length, length-filter}
+use Rattle.std.specs.List.{list_any}
+use Rattle.std.specs.Prelude.{All, AllPairs, Bool, IsTrue, List, None, Option, Some, [], bytes_eq, cond, false, filter}
+use Rattle.std.specs.Prelude.{length, map, not, true, ℕ, ◌&&◌, ◌++◌, ◌+◌, ◌<◌, ◌==◌, ◌∷◌, ◌≡◌, ◌≤◌}
+
+abbrev Allowed : Ledger → List Change → Reply → Type 0
+Allowed L changes reply = AreAllowed changes L
+
+module _ (L : Ledger) (s : IsSound L) where
+  provision_allowed : (caller name : List ℕ) (kind : EndpointKind) (settings : List Setting) →
+      OnPassed (Allowed L) (provision caller name kind settings L)
+  provision_allowed caller name kind settings p = (
+    record {
+      number = refl;
+      unspent = leb-false spent L.next.endpoint p.1.1.1.0;
+      named = none_found {X = EndpointView} (λ e. bytes_eq e.name name) L.endpoints p.1.0;
+      place = leb-false most_endpoints (length L.endpoints) p.1.1.0;
+      fits = record {
+        ranges = allowed_keep_ranges kind settings (defaults caller) (defaults_in_range caller) p.0;
+        subscriptions = omega arith;
+        suits = new_suits kind L.next.endpoint caller name settings p.0;
+      };
+    },
+    tt,
+  )
+
+  deprovision_allowed : (name : List ℕ) → OnPassed (Allowed L) (deprovision name L)
+  deprovision_allowed name =
+      passed_on_found {X = EndpointView} (Allowed L) (UnknownEndpoint name) _ (named name L.endpoints)
+      (λ e found p. (
+        (
+          eqb-true _ 0 (and_right (flow_count L.flows e.number == 0) _ (not_false _ p.0)),
+          eqb-true _ 0
+              (and_left (flow_count L.flows e.number == 0) _ (not_false _ p.0)),
+        ),
+        tt,
+      ))
+
+  change_allowed : (name : List ℕ) (settings : List Setting) → OnPassed (Allowed L) (change_step name settings L)
+  change_allowed name settings =
+      passed_on_found {X = EndpointView} (Allowed L) (UnknownEndpoint name) _ (named name L.endpoints)
+      (λ e found p.
+      let old = endpoint_found L (λ x. bytes_eq x.name name) e s.endpoints found in (
+        may_become L (λ x. bytes_eq x.name name) e (record e { attributes = with_settings settings e.attributes })
+            s.endpoints found refl refl
+            (record {
+              ranges = allowed_keep_ranges e.kind settings e.attributes old.ranges p.0;
+              subscriptions = old.subscriptions;
+              suits = settings_suit e.kind settings e p.0 old.suits;
+            }),
+        tt,
+      ))
+
+  -- a queue that is found may have other texts
+  texts_allowed : (name : List ℕ) (queue : EndpointView) (texts : List (List ℕ)) →
+      queue_named name L.endpoints ≡ Some queue → length texts ≤ most_subscriptions →
+      AreAllowed (becomes (record queue { subscriptions = texts }) ∷ []) L
+  texts_allowed name queue texts found few =
+      let p : EndpointView → Bool = λ x. is_queue x.kind && bytes_eq x.name name in
+      let old = endpoint_found L p queue s.endpoints found in (
+        may_become L p queue (record queue { subscriptions = texts }) s.endpoints found refl refl
+            (record {
+              ranges = old.ranges;
+              subscriptions = few;
+              suits = texts_suit queue.kind texts queue
+                  (and_left (is_queue queue.kind) _ (find_passes p L.endpoints queue found)) old.suits;
+            }),
+        tt,
+      )
+
+  subscribe_allowed : (name text : List ℕ) → OnPassed (Allowed L) (subscribe name text L)
+  subscribe_allowed name text =
+      passed_on_found {X = EndpointView} (Allowed L) (UnknownEndpoint name) _ (queue_named name L.endpoints)
+      (λ queue found p. texts_allowed name queue (queue.subscriptions ++ text ∷ []) found
+      (let more = length-append queue.subscriptions (text ∷ []) in
+      let room = leb-false most_subscriptions (length queue.subscriptions) p.1.0 in omega (arith, more, room)))
+
+  unsubscribe_allowed : (name text : List ℕ) → OnPassed (Allowed L) (unsubscribe name text L)
+  unsubscribe_allowed name text =
+      passed_on_found {X = EndpointView} (Allowed L) (UnknownEndpoint name) _ (queue_named name L.endpoints)
+      (λ queue found p.
+      let keep : List ℕ → Bool = λ t. not (bytes_eq t text) in
+      let old = endpoint_found L (λ x. is_queue x.kind && bytes_eq x.name name) queue s.endpoints found in
+      let most = old.subscriptions in
+      texts_allowed name queue (filter keep queue.subscriptions) found
+      (let same = length-filter keep queue.subscriptions in
+      let less = count_by-le-length keep queue.subscriptions in omega (arith, same, less, most)))
+
+  publish_allowed : (m : Message) → OnPassed (Allowed L) (publish m L)
+  publish_allowed m p =
+      let into = takers L.endpoints m in
+      let size = size_of m in
+      let numbers = is_spent L.next.message kinds.Message ∷ is_copy_spent (L.copies.next + length into) ∷ [] in
+      let parts : Passes (map (quota_check L size) into) × Passes numbers =
+      passes-append (map (quota_check L size) into) numbers p.1 in
+      let room = ltb-false (last_copy + 1) (L.copies.next + length into) parts.1.1.0 in
+      let many = length-map into (share_for L.next.message size) in (
+        record {
+          unspent = leb-false spent L.next.message parts.1.0;
+          copies = omega (arith, room, many);
+          each =
+              All-map (IsShare L m) (share_for L.next.message size) into
+              (All-weaker (λ (e : EndpointView). ((quota_check L size e).broken ≡ false)
+              × (IsTrue (is_there L.endpoints e.number) × IsEndpoint e))
+              (λ (e : EndpointView). IsShare L m (share_for L.next.message size e))
+              (λ e h. share_fits e h.0 h.1.0 h.1.1) into
+              (All-both (λ (e : EndpointView). (quota_check L size e).broken ≡ false)
+              (λ (e : EndpointView). IsTrue (is_there L.endpoints e.number) × IsEndpoint e) into
+              (each_passes (quota_check L size) into parts.0)
+              (takers_all L m (λ (e : EndpointView). IsTrue (is_there L.endpoints e.number) × IsEndpoint e)
+              all_there)));
+          apart = pairs_made (λ (a b : Share). (a.copy.endpoint == b.copy.endpoint) ≡ false)
+              (share_for L.next.message size) into (takers_apart L m s.endpoints.rise);
+        },
+        tt,
+      )
+    where
+      all_there : All (λ e. IsTrue (is_there L.endpoints e.number) × IsEndpoint e) L.endpoints
+      all_there =
+          All-both (λ (e : EndpointView). IsTrue (is_there L.endpoints e.number)) IsEndpoint L.endpoints
+          (All-weaker (λ (e : EndpointView). (e.number == e.number) ≡ true → is_there L.endpoints e.number ≡ true)
+          (λ (e : EndpointView). IsTrue (is_there L.endpoints e.number))
+          (λ e h. h (eq-eqb e.number e.number refl)) L.endpoints
+          (any_self {X = EndpointView} (λ d e. e.number == d.number) L.endpoints)) s.endpoints.each
+
+      share_fits : (e : EndpointView) → (quota_check L (size_of m) e).broken ≡ false →
+          IsTrue (is_there L.endpoints e.number) → IsEndpoint e → IsShare L m (share_for L.next.message (size_of m) e)
+      share_fits e fits there is = record {
+        there = there;
+        message = refl;
+        size = refl;
+        origin = refl;
+        fits = λ spooled. let most =
+            ltb-false (quota_of e.attributes) (used_bytes L.copies e.number + size_of m) fits in let greatest =
+            quota_below e.attributes is.ranges in omega (arith, most, greatest);
+        small = λ isnt. absurd (cc);
+      }
+
+  open_spooled : (e : ℕ) → All (λ c. is_spooled L.copies c.number ≡ true) (open_copies L.copies e)
+  open_spooled e =
+      All-weaker (λ (c : MadeCopy). ((c.number == c.number) ≡ true → is_made L.copies.made c.number ≡ true) × IsTrue
+      (is_open_in L.copies.closed e c)) (λ (c : MadeCopy). is_spooled L.copies c.number ≡ true)
+      (λ c h. and_both (is_made L.copies.made c.number) _ (h.0 (eq-eqb c.number c.number refl))
+      (and_right (c.endpoint == e) _ h.1)) (open_copies L.copies e)
+      (All-both (λ (c : MadeCopy). (c.number == c.number) ≡ true → is_made L.copies.made c.number ≡ true)
+      (λ (c : MadeCopy). IsTrue (is_open_in L.copies.closed e c)) (open_copies L.copies e)
+      (All-filter (is_open_in L.copies.closed e)
+      (λ (c : MadeCopy). (c.number == c.number) ≡ true → is_made L.copies.made c.number ≡ true) L.copies.made
+      (any_self {X = MadeCopy} (λ c d. d.number == c.number) L.copies.made))
+      (All-kept (is_open_in L.copies.closed e) L.copies.made))
+
+  outdated_allowed : (e : EndpointView) (topic : Option (List ℕ)) →
+      AreAllowed (map (λ c. closes c.number (closings.Discarded TopicChanged)) (outdated L e topic)) L
+  outdated_allowed e topic = one (is_another e.topic topic)
+    where
+      apart : AllPairs (λ c d. (c.number == d.number) ≡ false) (open_copies L.copies e.number)
+      apart = λ i j d lt le. lesser_is_not _ _
+          (AllPairs-filter (λ (c d : MadeCopy). c.number < d.number) (is_open_in L.copies.closed e.number)
+          L.copies.made s.one.numbered.rise i j d lt le)
+
+      one : (b : Bool) → AreAllowed
+          (map (λ c. closes c.number (closings.Discarded TopicChanged)) (cond b (open_copies L.copies e.number) [])) L
+      one true = close_allowed (closings.Discarded TopicChanged) refl (open_copies L.copies e.number) L
+          (open_spooled e.number) apart
+      one false = tt
+
+  -- another topic, and then a flow, where the copies were closed
+  topic_and_flow : (e : EndpointView) (topic : Option (List ℕ)) (H : History) (f : FlowView) →
+      MayBecome L (record e { topic = topic }) → MayBind L f →
+      AreAllowed (new_topic e topic ++ binds f ∷ []) (record L { copies = H })
+  topic_and_flow e topic H f may bind = one (is_another e.topic topic)
+    where
+      one : (b : Bool) → AreAllowed (cond b (becomes (record e { topic = topic }) ∷ []) [] ++ binds f ∷ [])
+          (record L { copies = H })
+      one true = (
+        record { named = may.named; fits = may.fits },
+        (
+          record {
+            number = bind.number;
+            unspent = bind.unspent;
+            there = is_there_in_place L (record e { topic = topic }) may f.endpoint bind.there;
+            caller =
+                bind.caller;
+          },
+          tt,
+        ),
+      )
+      one false = (
+        record {
+          number = bind.number;
+          unspent = bind.unspent;
+          there = bind.there;
+          caller = bind.caller;
+        },
+        tt,
+      )
+
+  bind_allowed : (caller name : List ℕ) (topic : Option (List ℕ)) → is_caller caller ≡ true →
+      OnPassed (Allowed L) (bind caller name topic L)
+  bind_allowed caller name topic short =
+      passed_unless (Allowed L) (topic_check topic)
+      (on_found (named name L.endpoints) (UnknownEndpoint name) on_endpoint)
+      (passed_on_found {X = EndpointView} (Allowed L) (UnknownEndpoint name) on_endpoint (named name L.endpoints)
+      (λ e found p.
+      let old = endpoint_found L (λ x. bytes_eq x.name name) e s.endpoints found in
+      let new : EndpointView = record e { topic = topic } in
+      let f : FlowView = record { number = L.next.flow; endpoint = e.number; caller = caller; selector = None } in
+      let may = may_become L (λ x. bytes_eq x.name name) e new s.endpoints found refl refl
+      (record {
+        ranges = old.ranges;
+        subscriptions = old.subscriptions;
+        suits = topic_suits e.kind topic e (not_false _ p.0) old.suits;
+      }) in
+      let gone = map (λ (c : MadeCopy). closes c.number (closings.Discarded TopicChanged)) (outdated L e topic) in
+      let more = new_topic e topic ++ binds f ∷ [] in
+      let there = any_found {X = EndpointView} (λ x. bytes_eq x.name name) (λ x. x.number == e.number) L.endpoints e
+      found (eq-eqb e.number e.number refl) in
+      subst (λ cs. AreAllowed cs L) (sym (append_assoc gone (new_topic e topic) (binds f ∷ [])))
+      (allowed_append gone more L (outdated_allowed e topic)
+      (subst (AreAllowed more) (sym (closes_all (closings.Discarded TopicChanged) (outdated L e topic) L))
+      (topic_and_flow e topic (all_changed gone L).copies f may
+      (record { number = refl; unspent = leb-false spent L.next.flow p.1.1.0; there = there; caller = short }))))))
+    where
+      on_endpoint : EndpointView → Step
+      on_endpoint e =
+          does (record { broken = not (fits_kind e.kind topic); refusal = BadSubscription 0 }
+          ∷ record {
+            broken = is_another e.topic topic && not (flow_count L.flows e.number == 0);
+            refusal = InUse (flow_count L.flows e.number) (spooled_count L.copies (Some e.number));
+          }
+          ∷ is_spent L.next.flow kinds.Flow
+          ∷ [])
+          (map (λ c. closes c.number (closings.Discarded TopicChanged)) (outdated L e topic)
+          ++ new_topic e topic
+          ++ binds (record { number = L.next.flow; endpoint = e.number; caller = caller; selector = None })
+          ∷ [])
+          (replies.Bind e.name L.next.flow (length (outdated L e topic)))
+
+  unbind_allowed : (caller : List ℕ) (flow : ℕ) → OnPassed (Allowed L) (unbind caller flow L)
+  unbind_allowed caller flow =
+      passed_on_found {X = FlowView} (Allowed L) (UnknownFlow flow) _ (flow_of L.flows caller flow)
+      (λ f found p.
+      let held = held_by L.copies flow in
+      allowed_append (map frees held) (unbinds flow ∷ []) L
+      (free_allowed held L (held_by_held L.copies flow) (held_by_rises L.copies flow (kept_of L s).history))
+      (subst (AreAllowed (unbinds flow ∷ [])) (sym (frees_all held L)) (
+        (
+          any_found {X = FlowView} (λ g. (g.number == flow) && bytes_eq g.caller caller) (λ g. g.number == flow)
+              L.flows f found (and_left (f.number == flow) _
+              (find_passes {X = FlowView} (λ g. (g.number == flow) && bytes_eq g.caller caller) L.flows f found)),
+          none_held L.copies flow (kept_of L s).history,
+        ),
+        tt,
+      )))
+
+  pull_allowed : (caller : List ℕ) (flow count : ℕ) → All (λ a. a.count + 1 < L.next.unit) L.copies.attempts →
+      OnPassed (Allowed L) (pull caller flow count L)
+  pull_allowed caller flow count few =
+      passed_on_found {X = FlowView} (Allowed L) (UnknownFlow flow) _ (flow_of L.flows caller flow)
+      (λ f found p.
+      let p : FlowView → Bool = λ g. (g.number == flow) && bytes_eq g.caller caller in
+      hold_allowed flow (pulled L f count) L (pulled_free L f count) (pulled_rise L f count (kept_of L s).history)
+      (All-weaker (λ (c : MadeCopy). list_any (in_endpoint L.copies f.endpoint L.now c) L.copies.made ≡ true)
+      (λ (c : MadeCopy). IsTrue (is_bound_for L.flows L.copies.made (record { copy = c.number; flow = flow })))
+      (λ c here.
+      any_found {X = FlowView} p
+      (λ g. (g.number == flow) && list_any
+      (λ (d : MadeCopy). (d.number == c.number) && (d.endpoint == g.endpoint)) L.copies.made) L.flows f found
+      (and_both (f.number == flow) _ (and_left (f.number == flow) _ (find_passes p L.flows f found)) here))
+      (pulled L f count) (pulled_in L f count))
+      (All-weaker (λ (a : CopyAttempts). a.count + 1 < L.next.unit)
+      (λ (a : CopyAttempts). list_any (λ (c : MadeCopy). c.number == a.copy) (pulled L f count) ≡ true →
+      a.count + 1 < L.next.unit) (λ a lt among. lt) L.copies.attempts few))
+
+  -- a held copy is spooled
+  pub held_is_spooled : (flow copy : ℕ) → is_held_by L.copies.held flow copy ≡ true → is_spooled L.copies copy ≡ true
+  held_is_spooled flow copy h =
+      All-any (λ (x : HeldCopy). IsTrue (is_spooled L.copies x.copy)) (is_spooled L.copies copy ≡ true)
+      (λ x. (x.copy == copy) && (x.flow == flow)) L.copies.held s.one.held.spooled
+      (λ x is test. subst (λ k. is_spooled L.copies k ≡ true) (eqb-true _ _ (and_left (x.copy == copy) _ test)) is) h
+
+  settle_allowed : (caller : List ℕ) (flow copy : ℕ) (outcome : settling.Outcome) →
+      OnPassed (Allowed L) (settle caller flow copy outcome L)
+  settle_allowed caller flow copy settling.TheVariants.Accepted =
+      passed_on_found {X = FlowView} (Allowed L) (UnknownFlow flow) _ (flow_of L.flows caller flow)
+      (λ f found p. ((held_is_spooled flow copy (not_false _ p.0), refl), tt))
+
+  pub step_allowed : (caller : List ℕ) → is_caller caller ≡ true →
+      All (λ a. a.count + 1 < L.next.unit) L.copies.attempts → (event : Event) →
+      OnPassed (Allowed L) (step caller event L)
+  step_allowed caller short few (events.Provision name kind settings) = provision_allowed caller name kind settings
+  step_allowed caller short few (events.Deprovision name) = deprovision_allowed name
+  step_allowed caller short few (events.Change name settings) = change_allowed name settings
+  step_allowed caller short few (events.Subscribe name text) = subscribe_allowed name text
+  step_allowed caller short few (events.Unsubscribe name text) = unsubscribe_allowed name text
+  step_allowed caller short few (events.Publish m) = publish_allowed m
+  step_allowed caller short few (events.Bind name topic) = bind_allowed caller name topic short
+  step_allowed caller short few (events.Unbind flow) = unbind_allowed caller flow
+  step_allowed caller short few (events.Pull flow count) = pull_allowed caller flow count few
+  step_allowed caller short few (events.Settle flow copy outcome) = settle_allowed caller flow copy outcome
+
+-- what an accepted event leaves is sound
+pub outcome_sound : (L : Ledger) → IsLedger L → (moment : ℕ) (caller : List ℕ) → is_caller caller ≡ true →
+    (event : Event) (M : Ledger) (told : List Reply) → outcome moment caller event L ≡ accepted M told → IsLedger M
+outcome_sound L s moment caller short event M told e =
+    let B = begun moment L in
+    let sound = begun_sound moment L s.sound in
+    let few = All-weaker (λ (a : CopyAttempts). a.count < L.next.unit)
+    (λ (a : CopyAttempts). a.count + 1 < L.next.unit + 1) (λ a lt. omega (arith, lt)) L.copies.attempts
+    s.sound.copies.attempts in
+    where_accepted L B (λ m t. IsLedger m) (step caller event B)
+    (passed_weaker (Allowed B) (λ changes reply. L.next.unit < spent → IsLedger (all_changed changes B))
+    (λ changes reply may lt. record {
+      sound = changes_sound changes B sound may;
+      unit = let same = units_after changes B in omega (arith, same, lt);
+    }) (step caller event B) (step_allowed B sound caller short few event))
+    M told e
+
+-- an accepted event's changes are allowed where it began, and leave the ledger after it
+pub accepted_changes : (L : Ledger) → IsLedger L → (moment : ℕ) (caller : List ℕ) → is_caller caller ≡ true →
+    (event : Event) (M : Ledger) (told : List Reply) → outcome moment caller event L ≡ accepted M told →
+    AreAllowed (changes_of (step caller event (begun moment L)))
+    (begun moment L) × (all_changed (changes_of (step caller event (begun moment L))) (begun moment L) ≡ M)
+accepted_changes L s moment caller short event M told e =
+    let B = begun moment L in
+    let few = All-weaker (λ (a : CopyAttempts). a.count < L.next.unit)
+    (λ (a : CopyAttempts). a.count + 1 < L.next.unit + 1) (λ a lt. omega (arith, lt)) L.copies.attempts
+    s.sound.copies.attempts in
+    parts_of L B (step caller event B) (step_allowed B (begun_sound moment L s.sound) caller short few event) M told e

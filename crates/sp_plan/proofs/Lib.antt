@@ -1,0 +1,2 @@
+pub mod EachChange
+pub mod Needed
