@@ -1,7 +1,6 @@
 pub mod Causes
 pub mod Choice
 pub mod Declined
-pub mod Devices
 pub mod Name
 pub mod Refusal
 pub mod Rows

@@ -1,5 +1,5 @@
 //! What every other crate of the spool stands on: names, topics, numbers, moments, refusals, texts
-//! and lists that contracts see as what they hold, and the streams that a run reads and writes.
+//! and lists that contracts see as what they hold, and what a run reads from and writes to.
 #![tactic(auto)]
 
 pub mod bytes;
@@ -8,14 +8,11 @@ pub mod declined;
 pub mod failure;
 pub mod io;
 pub mod items;
-pub mod memory_io;
 pub mod moment;
 pub mod name;
 pub mod number;
-pub mod real_io;
 pub mod refusal;
 pub mod rows;
-pub mod steady_io;
 #[cfg(test)]
 mod tests;
 pub mod text;

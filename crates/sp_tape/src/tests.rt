@@ -1,6 +1,6 @@
 use crate::run_tape::run;
 use crate::status::Status;
-use sp_base::memory_io::{MemorySink, MemorySource};
+use sp_stream::memory::{MemorySink, MemorySource};
 use std::alloc::{AllocError, Global};
 use std::test::Fail;
 

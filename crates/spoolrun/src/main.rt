@@ -1,7 +1,7 @@
 //! Runs a tape of requests from standard input, and writes the answers to standard output.
 #![tactic(auto)]
 
-use sp_base::real_io::{ReaderSource, WriterSink};
+use sp_stream::real::{ReaderSource, WriterSink};
 use sp_tape::run_tape::run;
 use sp_tape::status::Status;
 use std::process::ExitCode;

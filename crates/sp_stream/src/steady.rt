@@ -1,7 +1,7 @@
 ghost use Rattle.std.specs.Prelude.{◌≡◌, Some, None, min, take, length};
 
-use crate::failure::Failed;
-use crate::io::{Sink, Source};
+use sp_base::failure::Failed;
+use sp_base::io::{Sink, Source};
 use std::marker::Model;
 
 /// A source of bytes in memory that never fails.

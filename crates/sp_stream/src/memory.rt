@@ -3,11 +3,11 @@ ghost use Rattle.std.specs.List.{list_any};
 ghost use Rattle.std.specs.Io.{ReadsAtMost, WritesAtMost};
 ghost use Rattle.std.specs.Io.KnownBytes.{ReadConsumes, WriteAppends, Keeps};
 ghost use Rattle.sp_base.specs.Causes.{HasCause, Rose};
-ghost use Rattle.sp_base.specs.Devices.{fails_next, one_more};
+ghost use Rattle.sp_stream.specs.Streams.{fails_next, one_more};
 
-use crate::failure::Failed;
-use crate::io::{Sink, Source};
-use crate::steady_io::fill;
+use crate::steady::fill;
+use sp_base::failure::Failed;
+use sp_base::io::{Sink, Source};
 use std::alloc::Global;
 use std::marker::Model;
 
@@ -76,7 +76,7 @@ pub struct MemorySource {
 
 impl Model for MemorySource {
     ghost use Rattle.std.specs.Prelude.{◌<◌, ◌≤◌, drop, vec_len};
-    ghost use Rattle.sp_base.specs.Devices.{Stream};
+    ghost use Rattle.sp_stream.specs.Streams.{Stream};
 
     ghost Value = { Stream };
 
@@ -132,7 +132,7 @@ pub struct MemorySink {
 
 impl Model for MemorySink {
     ghost use Rattle.std.specs.Prelude.{◌<◌};
-    ghost use Rattle.sp_base.specs.Devices.{Stream};
+    ghost use Rattle.sp_stream.specs.Streams.{Stream};
 
     ghost Value = { Stream };
 

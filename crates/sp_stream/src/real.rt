@@ -1,7 +1,7 @@
 ghost use Rattle.std.specs.Prelude.{◌≡◌};
 
-use crate::failure::Failed;
-use crate::io::{Sink, Source};
+use sp_base::failure::Failed;
+use sp_base::io::{Sink, Source};
 use std::io::{Read, Write};
 use std::marker::Model;
 
@@ -13,7 +13,7 @@ pub struct ReaderSource<R: Read + Drop> {
 }
 
 impl<R: Read + Drop> Model for ReaderSource<R> {
-    ghost use Rattle.sp_base.specs.Devices.{Counted};
+    ghost use Rattle.sp_stream.specs.Streams.{Counted};
 
     ghost Value = { Counted R };
 
@@ -53,7 +53,7 @@ pub struct WriterSink<W: Write + Drop> {
 }
 
 impl<W: Write + Drop> Model for WriterSink<W> {
-    ghost use Rattle.sp_base.specs.Devices.{Counted};
+    ghost use Rattle.sp_stream.specs.Streams.{Counted};
 
     ghost Value = { Counted W };
 
