@@ -18,12 +18,8 @@ impl Model for Flow {
     ghost use Rattle.sp_access.specs.Flow.{FlowView};
     ghost use Rattle.sp_access.specs.Inside.{view_of};
     ghost use Rattle.sp_base.specs.Name.{is_caller};
-    ghost use Rattle.sp_selector.specs.contracts.selector.Selector.{the_row as selector_row};
-    ghost use Rattle.std.specs.Coded.{codes};
 
     ghost Value = { FlowView };
-
-    ghost coded = { Prim.hlevel (codes, selector_row.coded) };
 
     ghost view = { view_of };
 

@@ -24,12 +24,8 @@ pub struct Flows {
 impl Model for Flows {
     ghost use Rattle.sp_access.specs.Flows.{FlowsView};
     ghost use Rattle.sp_access.specs.InsideFlows.{AreNumbered, flows_view};
-    ghost use Rattle.sp_selector.specs.contracts.selector.Selector.{the_row as selector_row};
-    ghost use Rattle.std.specs.Coded.{codes};
 
     ghost Value = { FlowsView };
-
-    ghost coded = { Prim.hlevel (codes, selector_row.coded) };
 
     ghost view = { flows_view };
 

@@ -3,7 +3,8 @@ use Rattle.sp_base.specs.Name.{is_caller}
 use Rattle.sp_base.specs.declared.refusal.Refusal.{Refusal}
 use Rattle.sp_copies.specs.declared.held.CopyAttempts.{CopyAttempts}
 use Rattle.sp_core.specs.Decided.{IsDecided, judged, verdict}
-use Rattle.sp_plan.specs.Plan.{PlanState}
+use Rattle.sp_plan.specs.Plan.{PlanState, changes_of}
+use Rattle.sp_plan.specs.declared.change.Change as own
 use Rattle.sp_core.specs.Stands.{Stands}
 use Rattle.sp_core.specs.State.{CoreState}
 use Rattle.sp_event.specs.declared.answer.Reply.{Reply}
@@ -17,11 +18,12 @@ use Rattle.sp_ledger.specs.Events.{outcome, step}
 use Rattle.sp_ledger.specs.Ledger.{Ledger}
 use Rattle.sp_ledger.specs.Limits.{spent}
 use Rattle.sp_ledger.specs.Sound.{IsLedger}
-use Rattle.sp_ledger.specs.Step.{Check, Step, begun, carried_out, decided, does, first_refusal, is_unit, lacks, on_found, outcome_of, refused, unit_check}
-use Rattle.std.proofs.Common.{ap, arith, refl, subst, sym}
+use Rattle.sp_ledger.specs.Step.{Check, Outcome, Step, begun, carried_out, decided, does, first_refusal, is_idle, is_unit, lacks, on_found, outcome_of, refused, unit_check}
+use Rattle.std.proofs.Common.{ap, arith, refl, subst, sym, ◌∙◌}
 use Rattle.std.proofs.lemmas.Bool.{leb-false}
+use Rattle.std.proofs.lemmas.Bool.Decides.{nat_tests}
 use Rattle.std.proofs.lemmas.List.Elements.{All-weaker}
-use Rattle.std.specs.Prelude.{Bool, Err, List, None, Ok, Option, Some, [], false, nat_le, true, ℕ, ◌&&◌, ◌++◌, ◌+◌, ◌<◌, ◌∷◌, ◌≡◌}
+use Rattle.std.specs.Prelude.{Bool, Err, List, None, Ok, Option, Some, [], false, length, nat_le, suc, true, ℕ, ◌&&◌, ◌++◌, ◌+◌, ◌<◌, ◌==◌, ◌∷◌, ◌≡◌}
 
 -- what is decided on what was found
 pub on_one : {X : Type 0} (L : Ledger) (found : Option X) (x : X) (refusal : Refusal) (s : X → Step) →
@@ -104,3 +106,14 @@ is_decided core moment caller event plan short planned = record {
 pub refused_so : (L : Ledger) (moment : ℕ) (caller : List ℕ) (event : Event) (refusal : Refusal) →
     verdict L (step caller event (begun moment L)) ≡ Err refusal → outcome moment caller event L ≡ refused refusal
 refused_so L moment caller event refusal e = outcome_refused L (begun moment L) (step caller event (begun moment L)) refusal e
+
+-- a unit is idle exactly where it has no changes
+pub idle_where : (made : List own.Change) (changes : List Change) (reply : Reply) (B : Ledger) (o : Outcome) → changes_of made ≡ changes →
+    o ≡ carried_out changes reply B → (length made == 0) ≡ is_idle o
+idle_where [] changes reply B o same is =
+    sym (ap is_idle (is ∙ ap (λ (cs : List Change). carried_out cs reply B) (sym same)))
+idle_where (c ∷ made) changes reply B o same is =
+    some (length made) ∙ sym (ap is_idle (is ∙ ap (λ (cs : List Change). carried_out cs reply B) (sym same)))
+  where
+    some : (n : ℕ) → (suc n == 0) ≡ false
+    some n = grind (arith, nat_tests)

@@ -6,23 +6,21 @@ use Rattle.sp_copies.specs.Counts.{spooled_count}
 use Rattle.sp_endpoint.specs.Endpoints.{named}
 use Rattle.sp_base.specs.declared.refusal.Kind.TheVariants as kinds
 use Rattle.sp_base.specs.declared.refusal.Refusal.{Refusal}
-use Rattle.sp_copies.specs.declared.closed.Cause.TheVariants.{TopicChanged}
-use Rattle.sp_copies.specs.declared.closed.Closing.TheVariants.{Discarded}
 use Rattle.sp_copies.specs.declared.made.MadeCopy.{MadeCopy}
 use Rattle.sp_core.proofs.Deciding.{is_planned, is_refused, on_one}
 use Rattle.sp_core.proofs.Spread.{first_of_two}
-use Rattle.sp_core.specs.Decided.{verdict}
+use Rattle.sp_core.specs.Decided.{bind_plan, verdict}
 use Rattle.sp_plan.specs.Plan.{PlanState}
 use Rattle.sp_endpoint.specs.Endpoint.{EndpointView}
 use Rattle.sp_event.specs.declared.answer.Reply.TheVariants as replies
 use Rattle.sp_ledger.proofs.Decided.{passes, passes-append}
-use Rattle.sp_ledger.specs.Changes.{Change, binds, closes, holds}
+use Rattle.sp_ledger.specs.Changes.{Change, holds}
 use Rattle.sp_ledger.specs.Ledger.{Ledger}
-use Rattle.sp_ledger.specs.OnFlows.{bind, deliveries, fits_kind, is_another, new_topic, outdated, pull, pulled, topic_check}
+use Rattle.sp_ledger.specs.OnFlows.{bind, deliveries, fits_kind, is_rebound, pull, pulled, rebound, topic_changes, topic_check}
 use Rattle.sp_ledger.specs.Step.{Check, Step, begun, does, first_refusal, is_copy_spent, is_spent, is_unit, on_found, rule, unit_check, unless}
 use Rattle.std.proofs.Common.{ap, arith, refl, sym, ◌∙◌}
 use Rattle.std.proofs.lemmas.Bool.{ltb-false}
-use Rattle.std.specs.Prelude.{Bool, Err, List, None, Ok, Option, Result, Some, [], cond, false, length, map, nat_lt, not, true, ℕ, ◌&&◌, ◌^◌, ◌++◌, ◌+◌, ◌==◌, ◌∷◌, ◌≡◌, ◌≤◌}
+use Rattle.std.specs.Prelude.{Bool, Err, List, None, Ok, Option, Some, [], cond, false, map, not, true, ℕ, ◌&&◌, ◌^◌, ◌++◌, ◌+◌, ◌==◌, ◌∷◌, ◌≡◌, ◌≤◌}
 
 -- one function after another
 pub map_twice : {X Y Z : Type 0} (f : Y → Z) (g : X → Y) (xs : List X) → map (λ x. f (g x)) xs ≡ map f (map g xs)
@@ -57,38 +55,56 @@ numbers_left L first quotas n none =
     let room = ltb-false (2 ^ 61 + 1) (L.copies.next + n) both.1.1.0 in
     omega (arith, room)
 
--- a bind that is refused by a rule on the endpoint or on numbers
-pub bind_refused : (L : Ledger) (caller name : List ℕ) (topic : Option (List ℕ)) (e : EndpointView) (r : Refusal) →
-    (topic_check topic).broken ≡ false → Some e ≡ named name L.endpoints →
-    Some r ≡ first_refusal (rule (not (fits_kind e.kind topic)) (BadSubscription 0)
-    ∷ rule (is_another e.topic topic && not (flow_count L.flows e.number == 0))
+-- what a bind checks, changes and tells, once the endpoint is found and it is known how it is bound
+abbrev bind_checks : Ledger → Option (List ℕ) → EndpointView → EndpointView → List Check
+bind_checks L topic e bound =
+    rule (not (fits_kind e.kind topic)) (BadSubscription 0)
+    ∷ rule (is_rebound e bound && not (flow_count L.flows e.number == 0))
     (InUse (flow_count L.flows e.number) (spooled_count L.copies (Some e.number)))
-    ∷ is_spent L.next.flow kinds.Flow ∷ is_spent L.next.unit kinds.Unit ∷ []) →
-    verdict L (bind caller name topic L) ≡ Err r
-bind_refused L caller name topic e r plain found some =
+    ∷ is_spent L.next.flow kinds.Flow
+    ∷ []
+
+abbrev bind_step : Ledger → List ℕ → Option (List ℕ) → Option (List ℕ) → EndpointView → EndpointView → Step
+bind_step L caller selector topic e bound =
+    does (bind_checks L topic e bound) (bind_plan caller e bound selector L).changes (bind_plan caller e bound selector L).reply
+
+-- it is that step
+bind_is : (L : Ledger) (caller name : List ℕ) (selector topic : Option (List ℕ)) (e bound : EndpointView) →
+    (topic_check topic).broken ≡ false → Some e ≡ named name L.endpoints → bound ≡ rebound e selector topic →
+    verdict L (bind caller name selector topic L) ≡ verdict L (bind_step L caller selector topic e bound)
+bind_is L caller name selector topic e bound plain found is =
     on_plain L (topic_check topic) (on_found (named name L.endpoints) (UnknownEndpoint name) on_endpoint) plain
     ∙ (on_one L (named name L.endpoints) e (UnknownEndpoint name) on_endpoint found
-    ∙ is_refused L (checks e) (changes e) (replies.Bind e.name L.next.flow (length (outdated L e topic))) r
-    (some ∙ sym (unit_is L (changes e) (checks e)
-    (last_unit (map (λ (c : MadeCopy). closes c.number (Discarded TopicChanged)) (outdated L e topic) ++ new_topic e topic) _))))
+    ∙ ap (λ (b : EndpointView). verdict L (bind_step L caller selector topic e b)) (sym is))
   where
-    checks : EndpointView → List Check
-    checks x =
-        rule (not (fits_kind x.kind topic)) (BadSubscription 0)
-        ∷ rule (is_another x.topic topic && not (flow_count L.flows x.number == 0))
-        (InUse (flow_count L.flows x.number) (spooled_count L.copies (Some x.number)))
-        ∷ is_spent L.next.flow kinds.Flow
-        ∷ []
-
-    changes : EndpointView → List Change
-    changes x =
-        map (λ (c : MadeCopy). closes c.number (Discarded TopicChanged)) (outdated L x topic)
-        ++ new_topic x topic
-        ++ binds (record { number = L.next.flow; endpoint = x.number; caller = caller; selector = None })
-        ∷ []
-
     on_endpoint : EndpointView → Step
-    on_endpoint x = does (checks x) (changes x) (replies.Bind x.name L.next.flow (length (outdated L x topic)))
+    on_endpoint x = bind_step L caller selector topic x (rebound x selector topic)
+
+bind_unit : (L : Ledger) (caller : List ℕ) (selector topic : Option (List ℕ)) (e bound : EndpointView) →
+    first_refusal (bind_checks L topic e bound ++ unit_check L (bind_plan caller e bound selector L).changes ∷ [])
+    ≡ first_refusal (bind_checks L topic e bound ++ is_spent L.next.unit kinds.Unit ∷ [])
+bind_unit L caller selector topic e bound =
+    unit_is L (bind_plan caller e bound selector L).changes (bind_checks L topic e bound) (last_unit (topic_changes L e bound) _)
+
+-- a bind that is refused by a rule on the endpoint or on numbers
+pub bind_refused : (L : Ledger) (caller name : List ℕ) (selector topic : Option (List ℕ)) (e bound : EndpointView) (r : Refusal) →
+    (topic_check topic).broken ≡ false → Some e ≡ named name L.endpoints → bound ≡ rebound e selector topic →
+    Some r ≡ first_refusal (bind_checks L topic e bound ++ is_spent L.next.unit kinds.Unit ∷ []) →
+    verdict L (bind caller name selector topic L) ≡ Err r
+bind_refused L caller name selector topic e bound r plain found is some =
+    bind_is L caller name selector topic e bound plain found is
+    ∙ is_refused L (bind_checks L topic e bound) _ _ r (some ∙ sym (bind_unit L caller selector topic e bound))
+
+-- a bind that isn't refused
+pub bind_planned : (L : Ledger) (caller name : List ℕ) (selector topic : Option (List ℕ)) (e bound : EndpointView) (plan : PlanState) →
+    (topic_check topic).broken ≡ false → Some e ≡ named name L.endpoints → bound ≡ rebound e selector topic →
+    None ≡ first_refusal (bind_checks L topic e bound ++ is_spent L.next.unit kinds.Unit ∷ []) →
+    plan ≡ bind_plan caller e bound selector L →
+    verdict L (bind caller name selector topic L) ≡ Ok plan
+bind_planned L caller name selector topic e bound plan plain found is none planned =
+    bind_is L caller name selector topic e bound plain found is
+    ∙ (is_planned L (bind_checks L topic e bound) _ _ (none ∙ sym (bind_unit L caller selector topic e bound))
+    ∙ ap (λ (p : PlanState). Ok p) (sym planned))
 
 -- a pull that isn't refused
 pub pull_planned : (L : Ledger) (moment : ℕ) (caller : List ℕ) (flow count : ℕ) (f : FlowView) (copies : List MadeCopy) (plan : PlanState) →

@@ -5,8 +5,6 @@ use Rattle.sp_base.specs.declared.declined.Declined.{Declined}
 use Rattle.sp_base.specs.declared.declined.Declined.TheVariants.{Refused, Memory}
 use Rattle.sp_base.specs.declared.declined.EventRefusal.{EventRefusal}
 use Rattle.sp_base.specs.declared.refusal.Refusal.{Refusal}
-use Rattle.sp_copies.specs.declared.closed.Cause.TheVariants.{TopicChanged}
-use Rattle.sp_copies.specs.declared.closed.Closing.TheVariants.{Discarded}
 use Rattle.sp_core.specs.Room.{HasRoom}
 use Rattle.sp_core.specs.Stands.{IsRoomier, Stands}
 use Rattle.sp_core.specs.State.{CoreState}
@@ -15,11 +13,11 @@ use Rattle.sp_event.specs.declared.answer.Reply.{Reply}
 use Rattle.sp_event.specs.declared.answer.Reply.TheVariants as replies
 use Rattle.sp_event.specs.declared.request.Event.{Event}
 use Rattle.sp_ledger.specs.Allowed.{AreAllowed}
-use Rattle.sp_ledger.specs.Changes.{Change, all_changed, binds, closes, publishes}
+use Rattle.sp_ledger.specs.Changes.{Change, all_changed, binds, publishes}
 use Rattle.sp_ledger.specs.Events.{outcome}
 use Rattle.sp_ledger.specs.Ledger.{Ledger}
 use Rattle.sp_ledger.specs.Limits.{spent}
-use Rattle.sp_ledger.specs.OnFlows.{new_topic, outdated}
+use Rattle.sp_ledger.specs.OnFlows.{new_flow, outdated, topic_changes}
 use Rattle.sp_ledger.specs.Publish.{share_for, told_copies}
 use Rattle.sp_ledger.specs.Step.{Outcome, Step, accepted, begun, carried_out, does, first_refusal}
 use Rattle.sp_ledger.specs.Step.{idle, is_unit, lacks, refused, unit_check}
@@ -39,12 +37,10 @@ verdict L (does checks changes reply) =
     judged (first_refusal (checks ++ unit_check L changes ∷ [])) (record { changes = changes; reply = reply })
 
 -- the plans of a bind and of a publish that aren't refused
-abbrev pub bind_plan : List ℕ → EndpointView → Option (List ℕ) → Ledger → PlanState
-bind_plan caller e topic L = record {
-  changes = map (λ c. closes c.number (Discarded TopicChanged)) (outdated L e topic)
-      ++ new_topic e topic
-      ++ binds (record { number = L.next.flow; endpoint = e.number; caller = caller; selector = None }) ∷ [];
-  reply = replies.Bind e.name L.next.flow (length (outdated L e topic));
+abbrev pub bind_plan : List ℕ → EndpointView → EndpointView → Option (List ℕ) → Ledger → PlanState
+bind_plan caller e bound selector L = record {
+  changes = topic_changes L e bound ++ binds (new_flow L.next.flow caller e selector) ∷ [];
+  reply = replies.Bind e.name L.next.flow (length (outdated L e bound));
 }
 
 abbrev pub publish_plan : Message → List EndpointView → Ledger → PlanState

@@ -27,12 +27,8 @@ pub struct Ready {
 impl Model for Ready {
     ghost use Rattle.sp_core.specs.Decided.{ReadyState};
     ghost use Rattle.sp_plan.specs.Plan.{changes_of};
-    ghost use Rattle.sp_selector.specs.contracts.selector.Selector.{the_row as selector_row};
-    ghost use Rattle.std.specs.Coded.{codes};
 
     ghost Value = { ReadyState };
-
-    ghost coded = { Prim.hlevel (codes, selector_row.coded) };
 
     ghost view = { λ r. record { moment = r.moment; changes = changes_of r.changes.items; replies = r.replies.items } };
 }

@@ -55,12 +55,8 @@ pub struct Core {
 impl Model for Core {
     ghost use Rattle.sp_core.specs.State.{CoreState};
     ghost use Rattle.sp_core.specs.Stands.{IsCore};
-    ghost use Rattle.sp_selector.specs.contracts.selector.Selector.{the_row as selector_row};
-    ghost use Rattle.std.specs.Coded.{codes};
 
     ghost Value = { CoreState };
-
-    ghost coded = { Prim.hlevel (codes, selector_row.coded) };
 
     ghost use Rattle.sp_core.specs.Inside.{core_state};
 

@@ -88,6 +88,7 @@ fn on_endpoint(alloc: Global, step: Step) -> Option<Event> {
         },
         Step::Bind => Event::Bind {
             endpoint,
+            selector: None,
             topic: None,
         },
         _ => Event::Deprovision { endpoint },

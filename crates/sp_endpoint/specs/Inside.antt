@@ -11,4 +11,5 @@ view_of e = record {
   attributes = e.attributes;
   subscriptions = e.subscriptions.items;
   topic = e.topic;
+  selector = e.selector;
 }

@@ -10,6 +10,7 @@ use Rattle.sp_endpoint.specs.Endpoints.{is_queue}
 use Rattle.sp_message.specs.declared.message.Dest.{Dest}
 use Rattle.sp_message.specs.declared.message.Dest.TheVariants.{Topic, Queue}
 use Rattle.sp_message.specs.declared.message.Message.{Message}
+use Rattle.sp_selector.specs.Takes.{passes}
 use Rattle.sp_topic.specs.Matching.{matches}
 use Rattle.sp_topic.specs.Subscriptions.{takes}
 
@@ -28,9 +29,9 @@ abbrev pub takes_dest : Dest → EndpointView → Bool
 takes_dest (Topic topic) e = takes_topic e.kind e topic
 takes_dest (Queue name) e = is_queue e.kind && bytes_eq e.name name
 
--- whether an endpoint takes a message
+-- an endpoint takes a message by where it goes and, where the endpoint has a selector, by that
 abbrev pub takes_message : Message → EndpointView → Bool
-takes_message m e = takes_dest m.dest e
+takes_message m e = takes_dest m.dest e && passes e.selector m.properties
 
 -- whether the first name comes before the second in byte order
 abbrev pub is_before : List ℕ → List ℕ → Bool

@@ -10,14 +10,15 @@ use sp_base::number::EndpointNo;
 use sp_config::attributes::Attributes;
 use sp_config::kind::EndpointKind;
 use sp_config::settings::Settings;
+use sp_selector::selector::{self, Selector};
 use sp_topic::subscription::Subscription;
 use sp_topic::subscriptions::{AddError, Subscriptions};
 use std::alloc::{AllocError, Global};
 use std::marker::Model;
 
 /// An endpoint that is there. A topic endpoint has no subscriptions, and has a topic from its first
-/// bind on; a queue has none.
-#[derive(Debug, Drop)]
+/// bind on, and a selector where it was bound with one; a queue has neither.
+#[derive(Drop)]
 pub struct Endpoint {
     pub number: EndpointNo,
     pub name: Name,
@@ -25,6 +26,7 @@ pub struct Endpoint {
     pub attributes: Attributes,
     pub subscriptions: Subscriptions,
     pub topic: Option<Subscription>,
+    pub selector: Option<Selector>,
 }
 
 impl Model for Endpoint {
@@ -38,7 +40,7 @@ impl Model for Endpoint {
 
 impl Endpoint {
     /// An endpoint that this caller makes: with the caller's defaults but for these values, and without
-    /// subscriptions and topic.
+    /// subscriptions, topic and selector.
     pub fn made(
         alloc: Global,
         number: EndpointNo,
@@ -56,6 +58,7 @@ impl Endpoint {
             attributes: defaults(alloc, caller)?.changed(alloc, settings)?,
             subscriptions: Subscriptions::new(alloc),
             topic: None,
+            selector: None,
         })
     }
 
@@ -70,6 +73,7 @@ impl Endpoint {
             attributes: self.attributes.changed(alloc, settings)?,
             subscriptions: self.subscriptions.copy(alloc)?,
             topic: copy_of(alloc, &self.topic)?,
+            selector: selector::copy_of(alloc, &self.selector)?,
         })
     }
 
@@ -115,16 +119,18 @@ impl Endpoint {
             attributes: self.attributes.copy(alloc)?,
             subscriptions,
             topic: copy_of(alloc, &self.topic)?,
+            selector: selector::copy_of(alloc, &self.selector)?,
         })
     }
 
-    /// A second endpoint with this topic, or with none.
+    /// A second endpoint with this topic and selector, or with none.
     pub fn with_topic(
         &self,
         alloc: Global,
         topic: &Option<Subscription>,
+        selector: Option<Selector>,
     ) -> Result<Endpoint, AllocError>
-        ensures { IfOk result (λ e. e ≡ record self.now { topic = topic.now }) }
+        ensures { IfOk result (λ e. e ≡ record self.now { topic = topic.now; selector = selector }) }
     {
         Ok(Endpoint {
             number: self.number,
@@ -133,6 +139,7 @@ impl Endpoint {
             attributes: self.attributes.copy(alloc)?,
             subscriptions: self.subscriptions.copy(alloc)?,
             topic: copy_of(alloc, topic)?,
+            selector,
         })
     }
 

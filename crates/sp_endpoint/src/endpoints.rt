@@ -15,7 +15,7 @@ use std::marker::Model;
 
 /// The endpoints that are there, in order of number. Contracts see them as a list, with the room that
 /// is reserved for more.
-#[derive(Debug, Drop)]
+#[derive(Drop)]
 pub struct Endpoints {
     rows: Rows<Endpoint>,
 }

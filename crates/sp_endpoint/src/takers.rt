@@ -2,12 +2,13 @@
 ghost use Rattle.std.specs.Prelude.{◌≡◌, IfOk, OnOk, filter, map};
 ghost use Rattle.std.specs.Cmp.Lexicographic.{slice_cmp};
 ghost use Rattle.std.specs.Ordering.{nat_cmp};
-ghost use Rattle.sp_endpoint.specs.Takers.{by_name, is_matched, takers, takes_message, takes_topic};
+ghost use Rattle.sp_endpoint.specs.Takers.{by_name, is_matched, takers, takes_dest, takes_message, takes_topic};
 
 use crate::endpoint::Endpoint;
 use sp_base::topic::Topic;
 use sp_config::kind::EndpointKind;
 use sp_message::message::{Dest, Message};
+use sp_selector::selector::passes;
 use sp_topic::subscription::Subscription;
 use std::alloc::{AllocError, Global};
 use std::cmp::Ordering;
@@ -56,7 +57,13 @@ fn compare_names(a: &Endpoint, b: &Endpoint) -> Ordering
 fn takes_message(message: &Message, endpoint: &Endpoint) -> bool
     ensures { result ≡ takes_message message.now endpoint.now }
 {
-    match &message.dest {
+    takes_dest(&message.dest, endpoint) && passes(&endpoint.selector, &message.properties)
+}
+
+fn takes_dest(dest: &Dest, endpoint: &Endpoint) -> bool
+    ensures { result ≡ takes_dest dest.now endpoint.now }
+{
+    match dest {
         Dest::Topic(topic) => takes_topic(endpoint, topic),
         Dest::Queue(name) => endpoint.is_queue() && endpoint.name.same(name),
     }

@@ -11,6 +11,7 @@ use sp_config::settings::Settings;
 use sp_message::message::{Dest, Message, TimeToLive};
 use sp_message::payload::Payload;
 use sp_message::property::Properties;
+use sp_selector::selector::Selector;
 use sp_topic::subscription::Subscription;
 use std::alloc::Global;
 use std::test::Fail;
@@ -43,15 +44,17 @@ fn endpoint(
     Ok(Endpoint::made(alloc, number, &caller, &name(alloc, text)?, kind, &settings)?)
 }
 
-/// A queue of the name b that subscribes to a/*, and a topic endpoint of the name B bound with a/>.
+/// A queue of the name b that subscribes to a/*, and a topic endpoint of the name B bound with a/>
+/// and a selector.
 fn two(alloc: Global) -> Result<Endpoints, Fail> {
     let mut endpoints = Endpoints::new(alloc);
     endpoints.reserve(2)?;
     let queue = endpoint(alloc, EndpointNo::of(1), "b", EndpointKind::Queue)?;
     let other = endpoint(alloc, EndpointNo::of(2), "B", EndpointKind::TopicEndpoint)?;
     let topic = Some(Subscription::read(alloc, b"a/>")?);
+    let selector = Selector::read(alloc, b"colour IS NULL")?;
     endpoints.add(queue);
-    endpoints.add(other.with_topic(alloc, &topic)?);
+    endpoints.add(other.with_topic(alloc, &topic, Some(selector))?);
     subscribe(alloc, &mut endpoints)?;
     Ok(endpoints)
 }

@@ -5,6 +5,7 @@ use sp_base::refusal::Refusal;
 use sp_copies::closed::{CauseCount, Fate};
 use sp_message::message::Dest;
 use sp_message::payload::Payload;
+use sp_message::property::Properties;
 
 /// A copy as a publish tells it.
 #[derive(Debug, Drop)]
@@ -23,6 +24,7 @@ pub struct Delivery {
     pub message: MessageNo,
     pub dest: Dest,
     pub payload: Payload,
+    pub properties: Properties,
 }
 
 /// A copy, and what has become of it.

@@ -3,6 +3,7 @@ use sp_base::number::{CopyNo, FlowNo, Ranged};
 use sp_config::kind::EndpointKind;
 use sp_config::settings::Settings;
 use sp_message::message::Message;
+use sp_selector::selector::Selector;
 use sp_topic::subscription::Subscription;
 
 /// What a number counts.
@@ -20,7 +21,7 @@ pub enum Outcome {
 }
 
 /// A request that may change the ledger.
-#[derive(Debug, Drop)]
+#[derive(Drop)]
 pub enum Event {
     /// An endpoint of this name and kind comes. The caller owns it, and its attributes are the
     /// defaults but for those that are given.
@@ -53,9 +54,11 @@ pub enum Event {
         message: Message,
     },
     /// A new flow of the caller is bound to an endpoint. A topic endpoint is bound with the topic
-    /// that it takes messages on from now on, a queue without one.
+    /// that it takes messages on from now on, a queue without one. A selector is the flow's at a
+    /// queue, and the endpoint's own at a topic endpoint.
     Bind {
         endpoint: Name,
+        selector: Option<Selector>,
         topic: Option<Subscription>,
     },
     /// A flow of the caller gives back what it holds, and goes.
@@ -86,7 +89,7 @@ pub enum Query {
 }
 
 /// A request: to do something, or to look.
-#[derive(Debug, Drop)]
+#[derive(Drop)]
 pub enum Ask {
     Do(Event),
     Look(Query),

@@ -1,5 +1,5 @@
 -- Each answer is told by its line, but for the place of a refused event.
-use Rattle.std.proofs.Common.{◌≡◌, ◌∙◌, ℕ, Bool, true, false, List, [], ◌∷◌, Option, Some, None, refl, sym, ap, codes}
+use Rattle.std.proofs.Common.{◌≡◌, ◌∙◌, ℕ, Bool, true, false, List, [], ◌∷◌, Option, Some, None, refl, sym, ap, ap₂, codes}
 use Rattle.std.specs.Prelude.{map, bytes_eq, if◌then◌else◌}
 use Rattle.std.specs.Option.{unwrap_or}
 use Rattle.std.specs.Str.{is_utf8}
@@ -25,7 +25,10 @@ use Rattle.sp_json.specs.Deliveries.{with_destination, delivery_data}
 use Rattle.sp_json.specs.Members.{whole}
 use Rattle.sp_json.specs.Payloads.{AreBytes, base64_of, from_base64}
 use Rattle.sp_json.specs.Told.{told_data, fate_data}
+use Rattle.sp_json.specs.Properties.{AreProperties, properties_from, properties_members}
+use Rattle.sp_message.specs.declared.property.Property.{Property}
 use Rattle.sp_json.proofs.PayloadLemmas.{base64_back}
+use Rattle.sp_json.proofs.PropertiesBack.{properties_back}
 use Rattle.sp_flowline.specs.Answers.{answer_data}
 use Rattle.sp_flowline.specs.Distinct.{IsTellable, without_index, LinesTellAnswers}
 use Rattle.sp_flowline.proofs.CopiesBack.{each_back, every_back, cause_back, fate_of, published_of, published_back, ended_of, ended_back, counts_of, counts_back}
@@ -35,9 +38,9 @@ use Rattle.sp_flowline.proofs.TextBack.{one_data}
 
 -- ---- deliveries
 
-abbrev delivery : ℕ → ℕ → ℕ → Dest → List ℕ → Delivery
-delivery attempt copy message dest payload =
-    record { attempt = attempt; copy = copy; message = message; dest = dest; payload = payload }
+abbrev delivery : ℕ → ℕ → ℕ → Dest → List ℕ → List Property → Delivery
+delivery attempt copy message dest payload properties =
+    record { attempt = attempt; copy = copy; message = message; dest = dest; payload = payload; properties = properties }
 
 abbrev dest_of : Members → Dest
 dest_of ms = if has (codes "topic") ms then Topic (text (codes "topic") ms) else Queue (text (codes "queue") ms)
@@ -47,34 +50,40 @@ payload_of ms =
     if has (codes "payload") ms then text (codes "payload") ms
     else unwrap_or (from_base64 (text (codes "payload64") ms)) []
 
+abbrev properties_of : Members → List Property
+properties_of ms = unwrap_or (properties_from (object (inner (codes "properties") ms))) []
+
 abbrev delivered : Members → Delivery
-delivered ms = delivery (num (codes "attempt") ms) (num (codes "copy") ms) (num (codes "message") ms) (dest_of ms) (payload_of ms)
+delivered ms =
+    delivery (num (codes "attempt") ms) (num (codes "copy") ms) (num (codes "message") ms) (dest_of ms) (payload_of ms) (properties_of ms)
 
 abbrev delivery_of : Data → Delivery
 delivery_of d = delivered (fields d)
 
-abbrev base : ℕ → ℕ → ℕ → Members
-base attempt copy message =
+abbrev base : ℕ → ℕ → ℕ → List Property → Members
+base attempt copy message properties =
     member (codes "attempt") (whole attempt)
     (member (codes "copy") (whole copy)
     (member (codes "message") (whole message)
-    (member (codes "properties") (object no_members) no_members)))
+    (member (codes "properties") (object (properties_members properties)) no_members)))
 
 abbrev shown : Bool → List ℕ → Members → Members
 shown is_text bytes ms =
     if is_text then put (codes "payload") (string bytes) ms else put (codes "payload64") (string (base64_of bytes)) ms
 
-by_form : (attempt copy message : ℕ) (dest : Dest) (payload : List ℕ) (is_text : Bool) → AreBytes payload
-    → delivered (shown is_text payload (with_destination dest (base attempt copy message))) ≡ delivery attempt copy message dest payload
-by_form attempt copy message (Topic topic) payload true h = refl
-by_form attempt copy message (Queue name) payload true h = refl
-by_form attempt copy message (Topic topic) payload false h =
-    ap (λ (o : Option (List ℕ)). delivery attempt copy message (Topic topic) (unwrap_or o [])) (base64_back payload h)
-by_form attempt copy message (Queue name) payload false h =
-    ap (λ (o : Option (List ℕ)). delivery attempt copy message (Queue name) (unwrap_or o [])) (base64_back payload h)
+by_form : (attempt copy message : ℕ) (dest : Dest) (payload : List ℕ) (ps : List Property) (is_text : Bool) → AreBytes payload → AreProperties ps
+    → delivered (shown is_text payload (with_destination dest (base attempt copy message ps))) ≡ delivery attempt copy message dest payload ps
+by_form attempt copy message (Topic topic) payload ps true h k =
+    ap (λ (o : Option (List Property)). delivery attempt copy message (Topic topic) payload (unwrap_or o [])) (properties_back ps k)
+by_form attempt copy message (Queue name) payload ps true h k =
+    ap (λ (o : Option (List Property)). delivery attempt copy message (Queue name) payload (unwrap_or o [])) (properties_back ps k)
+by_form attempt copy message (Topic topic) payload ps false h k =
+    ap₂ (λ (o : Option (List ℕ)) (q : Option (List Property)). delivery attempt copy message (Topic topic) (unwrap_or o []) (unwrap_or q [])) (base64_back payload h) (properties_back ps k)
+by_form attempt copy message (Queue name) payload ps false h k =
+    ap₂ (λ (o : Option (List ℕ)) (q : Option (List Property)). delivery attempt copy message (Queue name) (unwrap_or o []) (unwrap_or q [])) (base64_back payload h) (properties_back ps k)
 
-delivery_back : (d : Delivery) → AreBytes d.payload → delivery_of (delivery_data d) ≡ d
-delivery_back d h = by_form d.attempt d.copy d.message d.dest d.payload (is_utf8 d.payload) h
+delivery_back : (d : Delivery) → AreBytes d.payload × AreProperties d.properties → delivery_of (delivery_data d) ≡ d
+delivery_back d h = by_form d.attempt d.copy d.message d.dest d.payload d.properties (is_utf8 d.payload) h.0 h.1
 
 -- ---- replies
 
@@ -159,7 +168,7 @@ answer_back (Gave (replies.Bind endpoint flow discarded)) unit h = refl
 answer_back (Gave (replies.Unbind flow closed returned)) unit h =
     ap (λ (cs : List CopyFate). Gave (replies.Unbind flow cs returned)) (every_back fate_data ended_of ended_back closed)
 answer_back (Gave (replies.Pull flow deliveries)) unit h =
-    ap (λ (ds : List Delivery). Gave (replies.Pull flow ds)) (each_back delivery_data delivery_of (λ d. AreBytes d.payload) delivery_back deliveries h)
+    ap (λ (ds : List Delivery). Gave (replies.Pull flow ds)) (each_back delivery_data delivery_of (λ d. AreBytes d.payload × AreProperties d.properties) delivery_back deliveries h)
 answer_back (Gave (replies.Settle copy fate)) unit h = settled copy fate unit
 answer_back (Gave (replies.Tally t)) unit h =
     ap (λ (cs : List CauseCount). Gave (replies.Tally (tally t.accepted cs t.discarded t.made t.moved t.spooled t.used))) (counts_back t.causes h)

@@ -7,7 +7,7 @@ use Rattle.std.proofs.lemmas.Bool.{cond-true}
 use Rattle.std.proofs.lemmas.Bool.Decides.{nat_tests}
 use Rattle.serde_json.specs.Data.{string, object, put}
 use Rattle.sp_base.specs.declared.refusal.Refusal.{Refusal}
-use Rattle.sp_base.specs.declared.refusal.Refusal.TheVariants.{BadTopic, BadSubscription}
+use Rattle.sp_base.specs.declared.refusal.Refusal.TheVariants.{BadTopic, BadSelector, BadSubscription}
 use Rattle.sp_base.specs.Name.{is_name}
 use Rattle.sp_base.specs.Topic.{IsTopic}
 use Rattle.sp_config.specs.declared.kind.EndpointKind.{EndpointKind}
@@ -26,14 +26,19 @@ use Rattle.sp_json.specs.Deliveries.{with_destination}
 use Rattle.sp_json.specs.Fields.{within, name_from}
 use Rattle.sp_json.specs.Parts.{formed, unless, and_then}
 use Rattle.sp_json.specs.Payloads.{AreBytes, base64_of, from_base64, payload_from}
+use Rattle.sp_json.specs.Properties.{AreProperties, properties_from, properties_members}
+use Rattle.sp_json.specs.Selectors.{selector_of}
 use Rattle.sp_json.specs.Subscriptions.{subscription_from}
+use Rattle.sp_message.specs.declared.property.Property.{Property}
+use Rattle.sp_selector.specs.Takes.{selector_fault}
 use Rattle.sp_flowline.specs.declared.mode.Mode.TheVariants.{Persistent}
 use Rattle.sp_flowline.specs.Asks.{done, looked}
 use Rattle.sp_flowline.specs.FlowEvents.{plain_of}
 use Rattle.sp_flowline.specs.Publishes.{message_to, sent, topic_from}
 use Rattle.sp_flowline.specs.Request.{reading_of}
-use Rattle.sp_flowline.specs.Written.{event_data, of_op, MayHave, IsSendable, EventCanBeWritten, RequestsReadBack}
+use Rattle.sp_flowline.specs.Written.{event_data, of_op, with_properties, MayHave, IsSendable, EventCanBeWritten, RequestsReadBack}
 use Rattle.sp_json.proofs.PayloadLemmas.{base64_back}
+use Rattle.sp_json.proofs.PropertiesBack.{properties_back}
 use Rattle.sp_flowline.proofs.SettingsBack.{name_back, settings_back}
 
 bounded : (least greatest n : ℕ) → least ≤ n → n ≤ greatest → (nat_le least n && nat_le n greatest) ≡ true
@@ -69,34 +74,60 @@ provision endpoint kinds.TopicEndpoint settings n h =
     ap₂ (λ (name : Option (List ℕ)) (given : Result (List Setting) Refusal). done (and_then (formed name) (λ name. and_then given (λ given. Ok (events.Provision name kinds.TopicEndpoint given)))))
     (name_back endpoint n) (settings_back kinds.TopicEndpoint settings h)
 
-bind : (endpoint : List ℕ) (topic : Option (List ℕ)) → EventCanBeWritten (events.Bind endpoint topic)
-    → reading_of (event_data (events.Bind endpoint topic)) ≡ Ok (Do (events.Bind endpoint topic))
-bind endpoint None h =
-    ap (λ (name : Option (List ℕ)). done (and_then (formed name) (λ name. Ok (events.Bind name None)))) (name_back endpoint h.0)
-bind endpoint (Some topic) h =
-    ap₂ (λ (name : Option (List ℕ)) (text : Result (List ℕ) Refusal). done (and_then (formed name) (λ name. and_then (and_then text (λ topic. Ok (Some topic))) (λ topic. Ok (events.Bind name topic)))))
-    (name_back endpoint h.0) (plain_back topic h.1.0 h.1.1)
+selector_back : (text : List ℕ) → selector_fault text ≡ None → selector_of text ≡ Ok text
+selector_back text h = ap (λ (fault : Option ℕ). unless (option_map BadSelector fault) text) h
 
--- a publish, whose payload the fields give
-to_topic : (topic payload : List ℕ) (given : Option (List ℕ)) → IsTopic topic → given ≡ Some payload
-    → done (and_then (formed given) (λ (p : List ℕ). sent Persistent (topic_from topic) p)) ≡ Ok (Do (events.Publish (message_to (Topic topic) payload)))
-to_topic topic payload given s g =
-    ap₂ (λ (dest : Result Dest Refusal) (given : Option (List ℕ)). done (and_then (formed given) (λ (p : List ℕ). sent Persistent dest p))) (topic_back topic s) g
+-- what the texts of a bind are read as
+abbrev topic_read : List ℕ → Result (Option (List ℕ)) Refusal
+topic_read text = and_then (and_then (subscription_from text) plain_of) (λ topic. Ok (Some topic))
 
-to_queue : (name payload : List ℕ) (given : Option (List ℕ)) → is_name name ≡ true → given ≡ Some payload
-    → done (and_then (formed (option_map (λ (queue : List ℕ). Ok (Queue queue)) (name_from name))) (λ dest. and_then (formed given) (λ (p : List ℕ). sent Persistent dest p))) ≡ Ok (Do (events.Publish (message_to (Queue name) payload)))
-to_queue name payload given s g =
-    ap₂ (λ (found given : Option (List ℕ)). done (and_then (formed (option_map (λ (queue : List ℕ). Ok (Queue queue)) found)) (λ dest. and_then (formed given) (λ (p : List ℕ). sent Persistent dest p)))) (name_back name s) g
+topic_read_back : (text : List ℕ) → IsSubscription text × (is_exception text ≡ false) → topic_read text ≡ Ok (Some text)
+topic_read_back text h = ap (λ (r : Result (List ℕ) Refusal). and_then r (λ topic. Ok (Some topic))) (plain_back text h.0 h.1)
+
+abbrev selector_read : List ℕ → Result (Option (List ℕ)) Refusal
+selector_read text = and_then (selector_of text) (λ selector. Ok (Some selector))
+
+selector_read_back : (text : List ℕ) → selector_fault text ≡ None → selector_read text ≡ Ok (Some text)
+selector_read_back text h = ap (λ (r : Result (List ℕ) Refusal). and_then r (λ selector. Ok (Some selector))) (selector_back text h)
+
+-- a bind, by what its texts are read as
+bound : (name : Option (List ℕ)) (endpoint : List ℕ) (selector topic : Result (Option (List ℕ)) Refusal) (s t : Option (List ℕ)) →
+    name ≡ Some endpoint → selector ≡ Ok s → topic ≡ Ok t →
+    done (and_then (formed name) (λ name. and_then topic (λ topic. and_then selector (λ selector. Ok (events.Bind name selector topic))))) ≡ Ok (Do (events.Bind endpoint s t))
+bound name endpoint selector topic s t n h k = rw (n, h, k) refl
+
+bind : (endpoint : List ℕ) (selector topic : Option (List ℕ)) → EventCanBeWritten (events.Bind endpoint selector topic)
+    → reading_of (event_data (events.Bind endpoint selector topic)) ≡ Ok (Do (events.Bind endpoint selector topic))
+bind endpoint None None h = bound (name_from endpoint) endpoint (Ok None) (Ok None) None None (name_back endpoint h.0) refl refl
+bind endpoint None (Some topic) h =
+    bound (name_from endpoint) endpoint (Ok None) (topic_read topic) None (Some topic) (name_back endpoint h.0) refl (topic_read_back topic h.2)
+bind endpoint (Some text) None h =
+    bound (name_from endpoint) endpoint (selector_read text) (Ok None) (Some text) None (name_back endpoint h.0) (selector_read_back text h.1) refl
+bind endpoint (Some text) (Some topic) h =
+    bound (name_from endpoint) endpoint (selector_read text) (topic_read topic) (Some text) (Some topic) (name_back endpoint h.0) (selector_read_back text h.1) (topic_read_back topic h.2)
+
+-- a publish, whose payload and properties the fields give
+to_topic : (topic payload : List ℕ) (ps : List Property) (given : Option (List ℕ)) → IsTopic topic → given ≡ Some payload → AreProperties ps
+    → done (and_then (formed given) (λ (p : List ℕ). and_then (formed (properties_from (object (properties_members ps)))) (λ (qs : List Property). sent Persistent (topic_from topic) p qs))) ≡ Ok (Do (events.Publish (message_to (Topic topic) payload ps)))
+to_topic topic payload ps given s g k =
+    ap (λ (found : Option (List Property)). done (and_then (formed given) (λ (p : List ℕ). and_then (formed found) (λ (qs : List Property). sent Persistent (topic_from topic) p qs)))) (properties_back ps k)
+    ∙ ap₂ (λ (dest : Result Dest Refusal) (given : Option (List ℕ)). done (and_then (formed given) (λ (p : List ℕ). sent Persistent dest p ps))) (topic_back topic s) g
+
+to_queue : (name payload : List ℕ) (ps : List Property) (given : Option (List ℕ)) → is_name name ≡ true → given ≡ Some payload → AreProperties ps
+    → done (and_then (formed (option_map (λ (queue : List ℕ). Ok (Queue queue)) (name_from name))) (λ dest. and_then (formed given) (λ (p : List ℕ). and_then (formed (properties_from (object (properties_members ps)))) (λ (qs : List Property). sent Persistent dest p qs)))) ≡ Ok (Do (events.Publish (message_to (Queue name) payload ps)))
+to_queue name payload ps given s g k =
+    ap (λ (found : Option (List Property)). done (and_then (formed (option_map (λ (queue : List ℕ). Ok (Queue queue)) (name_from name))) (λ dest. and_then (formed given) (λ (p : List ℕ). and_then (formed found) (λ (qs : List Property). sent Persistent dest p qs))))) (properties_back ps k)
+    ∙ ap₂ (λ (found given : Option (List ℕ)). done (and_then (formed (option_map (λ (queue : List ℕ). Ok (Queue queue)) found)) (λ dest. and_then (formed given) (λ (p : List ℕ). sent Persistent dest p ps)))) (name_back name s) g
 
 payload64_back : (bytes : List ℕ) → AreBytes bytes → length bytes ≤ 8388608 → option_and_then payload_from (from_base64 (base64_of bytes)) ≡ Some bytes
 payload64_back bytes b l = ap (option_and_then payload_from) (base64_back bytes b) ∙ payload_back bytes l
 
-published : (dest : Dest) (payload : List ℕ) (text : Bool) → IsSendable dest → length payload ≤ 8388608 → AreBytes payload
-    → reading_of (object (if text then put (codes "payload") (string payload) (with_destination dest (of_op (codes "publish"))) else put (codes "payload64") (string (base64_of payload)) (with_destination dest (of_op (codes "publish"))))) ≡ Ok (Do (events.Publish (message_to dest payload)))
-published (Topic topic) payload true s l b = to_topic topic payload (payload_from payload) s (payload_back payload l)
-published (Topic topic) payload false s l b = to_topic topic payload (option_and_then payload_from (from_base64 (base64_of payload))) s (payload64_back payload b l)
-published (Queue name) payload true s l b = to_queue name payload (payload_from payload) s (payload_back payload l)
-published (Queue name) payload false s l b = to_queue name payload (option_and_then payload_from (from_base64 (base64_of payload))) s (payload64_back payload b l)
+published : (dest : Dest) (payload : List ℕ) (ps : List Property) (text : Bool) → IsSendable dest → length payload ≤ 8388608 → AreBytes payload → AreProperties ps
+    → reading_of (object (if text then put (codes "payload") (string payload) (with_destination dest (with_properties ps (of_op (codes "publish")))) else put (codes "payload64") (string (base64_of payload)) (with_destination dest (with_properties ps (of_op (codes "publish")))))) ≡ Ok (Do (events.Publish (message_to dest payload ps)))
+published (Topic topic) payload ps true s l b k = to_topic topic payload ps (payload_from payload) s (payload_back payload l) k
+published (Topic topic) payload ps false s l b k = to_topic topic payload ps (option_and_then payload_from (from_base64 (base64_of payload))) s (payload64_back payload b l) k
+published (Queue name) payload ps true s l b k = to_queue name payload ps (payload_from payload) s (payload_back payload l) k
+published (Queue name) payload ps false s l b k = to_queue name payload ps (option_and_then payload_from (from_base64 (base64_of payload))) s (payload64_back payload b l) k
 
 event_back : (event : Event) → EventCanBeWritten event → reading_of (event_data event) ≡ Ok (Do event)
 event_back (events.Provision endpoint kind settings) h = provision endpoint kind settings h.0 h.1
@@ -112,8 +143,8 @@ event_back (events.Unsubscribe endpoint text) h =
     ap₂ (λ (name : Option (List ℕ)) (text : Result (List ℕ) Refusal). done (and_then (formed name) (λ name. and_then text (λ text. Ok (events.Unsubscribe name text)))))
     (name_back endpoint h.0) (text_back text h.1)
 event_back (events.Publish m) h =
-    published m.dest m.payload (is_utf8 m.payload) h.1 h.2 h.3 ∙ ap (λ (n : Message). Ok (Do (events.Publish n))) (sym h.0)
-event_back (events.Bind endpoint topic) h = bind endpoint topic h
+    published m.dest m.payload m.properties (is_utf8 m.payload) h.1 h.2 h.3 h.4 ∙ ap (λ (n : Message). Ok (Do (events.Publish n))) (sym h.0)
+event_back (events.Bind endpoint selector topic) h = bind endpoint selector topic h
 event_back (events.Unbind flow) h =
     ap (λ (flow : Option ℕ). done (formed (option_map events.Unbind flow))) (number_back flow h)
 event_back (events.Pull flow count) h =

@@ -1,17 +1,18 @@
 -- The compact text of a JSON value determines the value.
 use Rattle.std.proofs.Common.{◌≡◌, ◌∙◌, ◌≤◌, ◌+◌, ℕ, List, [], Option, Some, None, refl, sym, ap, ap₂, arith, append-nil}
+use Rattle.std.specs.Prelude.{pos, negsuc}
 use Rattle.std.specs.Option.{unwrap_or}
 use Rattle.json.specs.Token.{Token}
 use Rattle.json.specs.Lex.{tokens}
 use Rattle.json.specs.Json as json
 use Rattle.json.specs.Tree.{json_tokens, depth, HasNumbers, ItemsHaveNumbers, MembersHaveNumbers}
-use Rattle.json.proofs.Printed.Decimals.{IsNumber-decimal}
+use Rattle.json.proofs.Printed.Decimals.{IsNumber-decimal, IsNumber-signed_decimal}
 use Rattle.json.proofs.Printed.Tokens.{tokens-print}
 use Rattle.json.proofs.Printed.Trees.{value-json_tokens, ArePrintable-json_tokens}
 use Rattle.serde_json.specs.Data.{Num, unsigned, negative, float, Data, null, boolean, number, string, array, object, Items, no_items, item, Members, no_members, member}
 use Rattle.serde_json.specs.Read.{number_of}
 use Rattle.serde_json.specs.Written.{outline, items_outline, members_outline, compact_text}
-use Rattle.serde_json.proofs.Numbers.{number_of-decimal}
+use Rattle.serde_json.proofs.Numbers.{number_of-decimal, number_of-negative}
 use Rattle.serde_json.proofs.Texts.{print-outline}
 use Rattle.sp_flowline.specs.Distinct.{HasWholes, ItemsHaveWholes, MembersHaveWholes}
 
@@ -37,7 +38,8 @@ mutual
   data_back null h = refl
   data_back (boolean b) h = refl
   data_back (number (unsigned n)) h = ap (λ (o : Option Num). number (unwrap_or o (unsigned 0))) (number_of-decimal n h)
-  data_back (number (negative z)) h = absurd h
+  data_back (number (negative (pos n))) h = absurd h
+  data_back (number (negative (negsuc n))) h = ap (λ (o : Option Num). number (unwrap_or o (unsigned 0))) (number_of-negative n h)
   data_back (number (float x)) h = absurd h
   data_back (string s) h = refl
   data_back (array ds) h = ap array (items_back ds h)
@@ -56,7 +58,8 @@ mutual
   has_numbers null h = tt
   has_numbers (boolean b) h = tt
   has_numbers (number (unsigned n)) h = IsNumber-decimal n h
-  has_numbers (number (negative z)) h = absurd h
+  has_numbers (number (negative (pos n))) h = absurd h
+  has_numbers (number (negative (negsuc n))) h = IsNumber-signed_decimal (negsuc n) h
   has_numbers (number (float x)) h = absurd h
   has_numbers (string s) h = tt
   has_numbers (array ds) h = items_numbers ds h

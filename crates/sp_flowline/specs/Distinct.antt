@@ -1,17 +1,19 @@
 -- What the line of an answer tells of it: all, but for the place of a refused event.
-use Rattle.std.specs.Prelude.{◌≡◌, ◌<◌, ◌^◌, ℕ, None, All, AllPairs, ⊤}
+use Rattle.std.specs.Prelude.{◌≡◌, ◌<◌, ◌^◌, ℕ, pos, negsuc, None, All, AllPairs, ⊤}
 use Rattle.serde_json.specs.Data.{Num, unsigned, negative, float, Data, null, boolean, number, string, array, object, Items, no_items, item, Members, no_members, member}
 use Rattle.sp_copies.specs.Counts.{cause_place}
 use Rattle.sp_event.specs.declared.answer.Answered.{Answered}
 use Rattle.sp_event.specs.declared.answer.Answered.TheVariants.{Gave, Refused, Memory, Disk, Full}
 use Rattle.sp_event.specs.declared.answer.Reply.TheVariants as replies
 use Rattle.sp_json.specs.Payloads.{AreBytes}
+use Rattle.sp_json.specs.Properties.{AreProperties}
 use Rattle.sp_flowline.specs.Answers.{answer_data, line_of}
 
--- a number of 64 bits
+-- a number of 64 bits: with a sign it is below zero
 abbrev pub IsWhole : Num → Type 0
 IsWhole (unsigned n) = n < 2 ^ 64
-IsWhole (negative z) = ⊥
+IsWhole (negative (pos n)) = ⊥
+IsWhole (negative (negsuc n)) = n < 2 ^ 63
 IsWhole (float x) = ⊥
 
 -- each number in a JSON value is one of 64 bits
@@ -32,10 +34,11 @@ abbrev mutual
   MembersHaveWholes no_members = ⊤
   MembersHaveWholes (member k d ms) = HasWholes d × MembersHaveWholes ms
 
--- what answers keep: a tally has its causes in the order of their names, and payloads are bytes
+-- what answers keep: a tally has its causes in the order of their names, payloads are bytes, and properties keep their
+-- rules
 abbrev pub IsTellable : Answered → Type 0
 IsTellable (Gave (replies.Tally tally)) = AllPairs (λ a b. cause_place a.cause < cause_place b.cause) tally.causes
-IsTellable (Gave (replies.Pull flow deliveries)) = All (λ d. AreBytes d.payload) deliveries
+IsTellable (Gave (replies.Pull flow deliveries)) = All (λ d. AreBytes d.payload × AreProperties d.properties) deliveries
 IsTellable answered = ⊤
 
 -- an answer without the place of a refused event, which no line shows

@@ -8,8 +8,9 @@ use Rattle.sp_event.specs.declared.request.Event.TheVariants.{Bind, Unbind, Pull
 use Rattle.sp_topic.specs.Subscription.{is_exception}
 use Rattle.sp_event.specs.declared.request.Outcome.{Outcome}
 use Rattle.sp_event.specs.declared.request.Outcome.TheVariants.{Accepted}
-use Rattle.sp_json.specs.Fields.{has_key, text_at, name_at, ranged_at, ranged_or}
+use Rattle.sp_json.specs.Fields.{has_key, text_at, optional_text_at, name_at, ranged_at, ranged_or}
 use Rattle.sp_json.specs.Parts.{formed, and_then}
+use Rattle.sp_json.specs.Selectors.{selector_from}
 use Rattle.sp_json.specs.Subscriptions.{subscription_at}
 
 -- a subscription, unless it is an exception
@@ -21,12 +22,15 @@ abbrev pub optional_plain_at : List ℕ → Data → Result (Option (List ℕ)) 
 optional_plain_at key d =
     if has_key key d then and_then (and_then (subscription_at key d) plain_of) (λ topic. Ok (Some topic)) else Ok None
 
--- a new flow on the endpoint of a name, with a topic for a topic endpoint
+-- a new flow on the endpoint of a name, with a topic for a topic endpoint and a selector; a topic that is none is told
+-- before a selector that is none
 abbrev pub bind_in : Data → Result Event Refusal
 bind_in d =
     and_then (formed (name_at (codes "endpoint") d)) (λ endpoint.
+    and_then (formed (optional_text_at (codes "selector") d)) (λ text.
     and_then (optional_plain_at (codes "topic") d) (λ topic.
-    Ok (Bind endpoint topic)))
+    and_then (selector_from text) (λ selector.
+    Ok (Bind endpoint selector topic)))))
 
 -- the end of a flow
 abbrev pub unbind_in : Data → Option Event

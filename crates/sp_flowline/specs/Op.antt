@@ -42,9 +42,13 @@ fields_of Unsubscribe =
 fields_of Publish = record {
   required = codes "op" ∷ [];
   one_of = codes "topic" ∷ codes "queue" ∷ [];
-  optional = codes "mode" ∷ codes "payload" ∷ codes "payload64" ∷ [];
+  optional = codes "mode" ∷ codes "payload" ∷ codes "payload64" ∷ codes "properties" ∷ [];
 }
-fields_of Bind = record { required = codes "op" ∷ codes "endpoint" ∷ []; one_of = []; optional = codes "topic" ∷ [] }
+fields_of Bind = record {
+  required = codes "op" ∷ codes "endpoint" ∷ [];
+  one_of = [];
+  optional = codes "selector" ∷ codes "topic" ∷ [];
+}
 fields_of Unbind = record { required = codes "op" ∷ codes "flow" ∷ []; one_of = []; optional = [] }
 fields_of Pull = record { required = codes "op" ∷ codes "flow" ∷ []; one_of = []; optional = codes "count" ∷ [] }
 fields_of Settle =

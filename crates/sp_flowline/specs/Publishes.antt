@@ -7,6 +7,7 @@ use Rattle.sp_base.specs.Topic.{topic_fault}
 use Rattle.sp_message.specs.declared.message.Dest.{Dest}
 use Rattle.sp_message.specs.declared.message.Dest.TheVariants.{Topic, Queue}
 use Rattle.sp_message.specs.declared.message.Message.{Message}
+use Rattle.sp_message.specs.declared.property.Property.{Property}
 use Rattle.sp_event.specs.declared.request.Event.{Event}
 use Rattle.sp_event.specs.declared.request.Event.TheVariants as events
 use Rattle.sp_flowline.specs.declared.mode.Mode.{Mode}
@@ -14,6 +15,7 @@ use Rattle.sp_flowline.specs.declared.mode.Mode.TheVariants.{Persistent, NonPers
 use Rattle.sp_json.specs.Fields.{has_key, text_at, choice_or, name_at}
 use Rattle.sp_json.specs.Parts.{formed, unless, and_then}
 use Rattle.sp_json.specs.Payloads.{payload_in}
+use Rattle.sp_json.specs.Properties.{properties_at}
 
 -- all modes
 abbrev pub all_modes : List Mode
@@ -35,14 +37,15 @@ dest_in d =
     if has_key (codes "topic") d then option_map topic_from (text_at (codes "topic") d)
     else option_map (λ queue. Ok (Queue queue)) (name_at (codes "queue") d)
 
--- a message of this payload, without a time to live, that isn't eligible for a dead-message queue and has no properties
-abbrev pub message_to : Dest → List ℕ → Message
-message_to dest payload = record { dest = dest; payload = payload; ttl = 0; eligible = false; properties = [] }
+-- a message of this payload and these properties, without a time to live, that isn't eligible for a dead-message queue
+abbrev pub message_to : Dest → List ℕ → List Property → Message
+message_to dest payload properties =
+    record { dest = dest; payload = payload; ttl = 0; eligible = false; properties = properties }
 
 -- a message that is sent in a mode: a direct one is refused, and then one to no topic
-abbrev pub sent : Mode → Result Dest Refusal → List ℕ → Result Event Refusal
-sent Direct dest payload = Err DirectMode
-sent mode dest payload = and_then dest (λ dest. Ok (events.Publish (message_to dest payload)))
+abbrev pub sent : Mode → Result Dest Refusal → List ℕ → List Property → Result Event Refusal
+sent Direct dest payload properties = Err DirectMode
+sent mode dest payload properties = and_then dest (λ dest. Ok (events.Publish (message_to dest payload properties)))
 
 -- a message for a topic or a queue, sent in the persistent mode where none is named
 abbrev pub publish_in : Data → Result Event Refusal
@@ -50,4 +53,5 @@ publish_in d =
     and_then (formed (choice_or mode_word all_modes Persistent (codes "mode") d)) (λ mode.
     and_then (formed (dest_in d)) (λ dest.
     and_then (formed (payload_in d)) (λ payload.
-    sent mode dest payload)))
+    and_then (formed (properties_at (codes "properties") d)) (λ properties.
+    sent mode dest payload properties))))

@@ -29,6 +29,9 @@ use Rattle.sp_topic.specs.Subscription.{IsSubscription, is_exception}
 use Rattle.sp_json.specs.Deliveries.{with_destination}
 use Rattle.sp_json.specs.Members.{whole}
 use Rattle.sp_json.specs.Payloads.{AreBytes, with_payload}
+use Rattle.sp_json.specs.Properties.{AreProperties, properties_members}
+use Rattle.sp_message.specs.declared.property.Property.{Property}
+use Rattle.sp_selector.specs.Takes.{selector_fault}
 use Rattle.sp_flowline.specs.Publishes.{message_to}
 use Rattle.sp_flowline.specs.Request.{reading_of}
 
@@ -70,6 +73,15 @@ abbrev pub with_topic : Option (List ℕ) → Members → Members
 with_topic None ms = ms
 with_topic (Some topic) ms = put (codes "topic") (string topic) ms
 
+-- fields with the selector of a bind, where it has one
+abbrev pub with_selector : Option (List ℕ) → Members → Members
+with_selector None ms = ms
+with_selector (Some text) ms = put (codes "selector") (string text) ms
+
+-- fields with properties
+abbrev pub with_properties : List Property → Members → Members
+with_properties properties ms = put (codes "properties") (object (properties_members properties)) ms
+
 -- an event as it is written
 abbrev pub event_data : Event → Data
 event_data (events.Provision endpoint kind settings) =
@@ -82,8 +94,10 @@ event_data (events.Subscribe endpoint subscription) =
     object (put (codes "subscription") (string subscription) (with_endpoint endpoint (of_op (codes "subscribe"))))
 event_data (events.Unsubscribe endpoint subscription) =
     object (put (codes "subscription") (string subscription) (with_endpoint endpoint (of_op (codes "unsubscribe"))))
-event_data (events.Publish m) = object (with_payload m.payload (with_destination m.dest (of_op (codes "publish"))))
-event_data (events.Bind endpoint topic) = object (with_topic topic (with_endpoint endpoint (of_op (codes "bind"))))
+event_data (events.Publish m) =
+    object (with_payload m.payload (with_destination m.dest (with_properties m.properties (of_op (codes "publish")))))
+event_data (events.Bind endpoint selector topic) =
+    object (with_topic topic (with_selector selector (with_endpoint endpoint (of_op (codes "bind")))))
 event_data (events.Unbind flow) = object (put (codes "flow") (whole flow) (of_op (codes "unbind")))
 event_data (events.Pull flow count) =
     object (put (codes "count") (whole count) (put (codes "flow") (whole flow) (of_op (codes "pull"))))
@@ -118,8 +132,8 @@ abbrev pub IsSendable : Dest → Type 0
 IsSendable (Topic topic) = IsTopic topic
 IsSendable (Queue name) = is_name name ≡ true
 
--- what events and queries always keep, and what lines can say: a message goes without a time to live, isn't
--- eligible and has no properties, an endpoint is given what its kind may have, and a bind's topic is no exception
+-- what events and queries always keep, and what lines can say: a message goes without a time to live and isn't
+-- eligible, an endpoint is given what its kind may have, and a bind's topic is no exception
 abbrev pub EventCanBeWritten : Event → Type 0
 EventCanBeWritten (events.Provision endpoint kind settings) =
     (is_name endpoint ≡ true) × MayHave kind settings
@@ -129,9 +143,11 @@ EventCanBeWritten (events.Change endpoint settings) =
 EventCanBeWritten (events.Subscribe endpoint subscription) = (is_name endpoint ≡ true) × IsSubscription subscription
 EventCanBeWritten (events.Unsubscribe endpoint subscription) = (is_name endpoint ≡ true) × IsSubscription subscription
 EventCanBeWritten (events.Publish m) =
-    (m ≡ message_to m.dest m.payload) × IsSendable m.dest × (length m.payload ≤ 8388608) × AreBytes m.payload
-EventCanBeWritten (events.Bind endpoint topic) =
-    (is_name endpoint ≡ true) × IfSome topic (λ text. IsSubscription text × (is_exception text ≡ false))
+    (m ≡ message_to m.dest m.payload m.properties) × IsSendable m.dest × (length m.payload ≤ 8388608)
+    × AreBytes m.payload × AreProperties m.properties
+EventCanBeWritten (events.Bind endpoint selector topic) =
+    (is_name endpoint ≡ true) × IfSome selector (λ text. selector_fault text ≡ None)
+    × IfSome topic (λ text. IsSubscription text × (is_exception text ≡ false))
 EventCanBeWritten (events.Unbind flow) = flow ≤ 2 ^ 62
 EventCanBeWritten (events.Pull flow count) = (flow ≤ 2 ^ 62) × (1 ≤ count) × (count ≤ 64)
 EventCanBeWritten (events.Settle flow copy outcome) = (flow ≤ 2 ^ 62) × (copy ≤ 2 ^ 62)

@@ -8,22 +8,31 @@ use serde_json::Value;
 use sp_base::declined::Declined;
 use sp_base::refusal::Refusal;
 use sp_event::request::{Event, Outcome, PullCount};
-use sp_json::fields::{has_key, name_at, ranged_at, ranged_or, text_at};
+use sp_json::fields::{has_key, name_at, optional_text_at, ranged_at, ranged_or, text_at};
 use sp_json::parts::malformed;
+use sp_json::selectors::selector_from;
 use sp_json::subscriptions::subscription_at;
 use sp_topic::subscription::Subscription;
 use std::alloc::Global;
 
-/// A new flow on the endpoint that is named, with the topic that a topic endpoint takes from now on.
-/// Whether the topic fits the endpoint isn't known here.
+/// A new flow on the endpoint that is named, with the topic that a topic endpoint takes from now on, and
+/// a selector. Whether the topic fits the endpoint isn't known here.
 pub fn bind_in(alloc: Global, value: &Value) -> Result<Event, Declined<Refusal>>
     ensures { Obeys (bind_in (view value.now)) result }
 {
     let Some(endpoint) = name_at(alloc, value, "endpoint")? else {
         return Err(malformed());
     };
+    let Some(text) = optional_text_at(value, "selector") else {
+        return Err(malformed());
+    };
     let topic = optional_plain_at(alloc, value, "topic")?;
-    Ok(Event::Bind { endpoint, topic })
+    let selector = selector_from(alloc, text)?;
+    Ok(Event::Bind {
+        endpoint,
+        selector,
+        topic,
+    })
 }
 
 fn optional_plain_at(

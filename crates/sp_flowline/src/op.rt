@@ -82,9 +82,9 @@ impl Op {
             Op::Publish => FieldNames::new(
                 &["op"],
                 &["topic", "queue"],
-                &["mode", "payload", "payload64"],
+                &["mode", "payload", "payload64", "properties"],
             ),
-            Op::Bind => FieldNames::new(&["op", "endpoint"], &[], &["topic"]),
+            Op::Bind => FieldNames::new(&["op", "endpoint"], &[], &["selector", "topic"]),
             Op::Unbind => FieldNames::new(&["op", "flow"], &[], &[]),
             Op::Pull => FieldNames::new(&["op", "flow"], &[], &["count"]),
             Op::Settle => FieldNames::new(&["op", "flow", "copy", "outcome"], &[], &[]),

@@ -13,6 +13,7 @@ use sp_event::request::Event;
 use sp_json::fields::{choice_or, has_key, name_at, text_at};
 use sp_json::parts::malformed;
 use sp_json::payloads::payload_in;
+use sp_json::properties::properties_at;
 use sp_message::message::{Dest, Message, TimeToLive};
 use sp_message::payload::Payload;
 use sp_message::property::Properties;
@@ -32,37 +33,40 @@ pub fn publish_in(alloc: Global, value: &Value) -> Result<Event, Declined<Refusa
     let Some(payload) = payload_in(alloc, value)? else {
         return Err(malformed());
     };
-    sent(alloc, mode, dest, payload)
+    let Some(properties) = properties_at(alloc, value, "properties")? else {
+        return Err(malformed());
+    };
+    sent(mode, dest, payload, properties)
 }
 
 fn sent(
-    alloc: Global,
     mode: Mode,
     dest: Result<Dest, Refusal>,
     payload: Payload,
+    properties: Properties,
 ) -> Result<Event, Declined<Refusal>>
-    ensures { Obeys (sent mode dest payload) result }
+    ensures { Obeys (sent mode dest payload properties) result }
 {
     if mode == Mode::Direct {
         return Err(Declined::Refused(Refusal::DirectMode));
     }
     match dest {
         Ok(dest) => Ok(Event::Publish {
-            message: message_to(alloc, dest, payload),
+            message: message_to(dest, payload, properties),
         }),
         Err(refusal) => Err(Declined::Refused(refusal)),
     }
 }
 
-fn message_to(alloc: Global, dest: Dest, payload: Payload) -> Message
-    ensures { result ≡ message_to dest payload }
+fn message_to(dest: Dest, payload: Payload, properties: Properties) -> Message
+    ensures { result ≡ message_to dest payload properties }
 {
     Message {
         dest,
         payload,
         ttl: TimeToLive::of(0),
         eligible: false,
-        properties: Properties::none(alloc),
+        properties,
     }
 }
 

@@ -18,9 +18,9 @@ use std::alloc::Global;
 /// request whose `at` is the first that applies: 0, the bytes are no JSON text of one line;
 /// 1, they are no object, or its op is missing, no text or unknown; 2, a required field is
 /// missing; 3, there is a field that the op doesn't have, or there are two that exclude each
-/// other; 4, a field has the wrong JSON kind or a value outside its range. The direct mode, a topic
-/// or a subscription that is none, and the first attribute that is unknown or can't have its value,
-/// are refused after that, each by its own rule.
+/// other; 4, a field has the wrong JSON kind or a value outside its range. The direct mode, a topic,
+/// a subscription or a selector that is none, and the first attribute that is unknown or can't have its
+/// value, are refused after that, each by its own rule.
 pub fn read(alloc: Global, line: &[u8]) -> Result<Ask, Declined<Refusal>>
     ensures { Reads line.now result }
 {

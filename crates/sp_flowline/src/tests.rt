@@ -1,5 +1,6 @@
 mod endpoints;
 mod flows;
+mod properties;
 mod replies;
 mod told;
 mod topics;

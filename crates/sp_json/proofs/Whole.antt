@@ -1,5 +1,6 @@
 -- What is shown has whole numbers alone.
 use Rattle.std.proofs.Common.{◌≡◌, ℕ, Bool, List, [], ◌∷◌, map, fold, false, true, ◌||◌, Option, Some, None, if◌then◌else◌, codes, refl, ap, ◌∙◌}
+use Rattle.std.specs.Prelude.{pos, negsuc}
 use Rattle.std.specs.Ordering.{nat_cmp, match_ordering}
 use Rattle.std.specs.Str.{is_utf8}
 use Rattle.std.specs.declared.cmp.Ordering.{Ordering}
@@ -26,6 +27,10 @@ use Rattle.sp_json.specs.Deliveries.{with_destination, delivery_data}
 use Rattle.sp_json.specs.Fates.{cause_word, fate_word, with_end, with_fate}
 use Rattle.sp_json.specs.Members.{whole}
 use Rattle.sp_json.specs.Payloads.{base64_of, with_payload}
+use Rattle.sp_json.specs.Properties.{properties_members, value_data}
+use Rattle.sp_message.specs.declared.property.Property.{Property}
+use Rattle.sp_message.specs.declared.value.Value.{Value}
+use Rattle.sp_message.specs.declared.value.Value.TheVariants as values
 use Rattle.sp_json.specs.Refusals.{shown_data, with_shown, shown_members}
 use Rattle.sp_json.specs.Told.{told_data, fate_data, with_cause, with_details}
 
@@ -83,13 +88,24 @@ sent : (dest : Dest) (ms : Members) → members_have_float ms ≡ false → memb
 sent (Topic topic) ms h = put_whole (codes "topic") (string topic) ms refl h
 sent (Queue name) ms h = put_whole (codes "queue") (string name) ms refl h
 
+valued : (v : Value) → has_float (value_data v) ≡ false
+valued (values.Whole (pos n)) = refl
+valued (values.Whole (negsuc n)) = refl
+valued (values.Fixed z) = refl
+valued (values.Text text) = refl
+valued (values.Bool truth) = refl
+
+named : (ps : List Property) → members_have_float (properties_members ps) ≡ false
+named [] = refl
+named (p ∷ ps) = ap (λ (b : Bool). b || members_have_float (properties_members ps)) (valued p.value) ∙ named ps
+
 delivered : (d : Delivery) → has_float (delivery_data d) ≡ false
 delivered d =
     let ms : Members = member (codes "attempt") (whole d.attempt)
     (member (codes "copy") (whole d.copy)
     (member (codes "message") (whole d.message)
-    (member (codes "properties") (object no_members) no_members))) in
-    paid d.payload (with_destination d.dest ms) (sent d.dest ms refl)
+    (member (codes "properties") (object (properties_members d.properties)) no_members))) in
+    paid d.payload (with_destination d.dest ms) (sent d.dest ms (ap (λ (b : Bool). b || false) (named d.properties)))
 
 pub deliveries : (ds : List Delivery) → items_have_float (items_of (map delivery_data ds)) ≡ false
 deliveries [] = refl

@@ -13,6 +13,10 @@ has_key key d = is_some (get key d)
 abbrev pub text_at : List ℕ → Data → Option (List ℕ)
 text_at key d = option_and_then as_str (get key d)
 
+-- the text in a field that may be absent
+abbrev pub optional_text_at : List ℕ → Data → Option (Option (List ℕ))
+optional_text_at key d = if has_key key d then option_map Some (text_at key d) else Some None
+
 -- the choice that a field names, and the one where it may be absent
 abbrev pub choice_at : {C : Type 0} → (C → List ℕ) → List C → List ℕ → Data → Option C
 choice_at word_of choices key d = option_and_then (choice_named word_of choices) (text_at key d)

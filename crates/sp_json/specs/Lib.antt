@@ -6,6 +6,8 @@ pub mod Members
 pub mod Names
 pub mod Parts
 pub mod Payloads
+pub mod Properties
 pub mod Refusals
+pub mod Selectors
 pub mod Subscriptions
 pub mod Told

@@ -5,6 +5,7 @@ ghost use Rattle.sp_json.specs.Deliveries.{with_destination, delivery_data, deli
 
 use crate::members::{Members, put_text, put_whole};
 use crate::payloads::put_payload;
+use crate::properties::properties_value;
 use serde_json::{Map, Value};
 use sp_event::answer::Delivery;
 use sp_message::message::Dest;
@@ -18,12 +19,8 @@ pub fn delivery_value(alloc: Global, delivery: &Delivery) -> Result<Value, Alloc
     put_whole(&mut map, alloc, "attempt", delivery.attempt)?;
     put_whole(&mut map, alloc, "copy", delivery.copy.value())?;
     put_whole(&mut map, alloc, "message", delivery.message.value())?;
-    serde_json::put(
-        &mut map,
-        alloc,
-        "properties",
-        Value::Object(Map::new(alloc)),
-    )?;
+    let properties = properties_value(alloc, &delivery.properties)?;
+    serde_json::put(&mut map, alloc, "properties", properties)?;
     put_destination(&mut map, alloc, &delivery.dest)?;
     put_payload(&mut map, alloc, delivery.payload.as_slice())?;
     Ok(Value::Object(map))

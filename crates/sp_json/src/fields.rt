@@ -1,7 +1,7 @@
 // The fields of a JSON object, and the values that they give.
 ghost use Rattle.std.specs.Prelude.{◌≡◌, option_map, IfOk};
 ghost use Rattle.serde_json.specs.View.{view};
-ghost use Rattle.sp_json.specs.Fields.{has_key, text_at, choice_at, choice_or, name_from, name_at, optional_name_at, whole_at, ranged_at, ranged_or};
+ghost use Rattle.sp_json.specs.Fields.{has_key, text_at, optional_text_at, choice_at, choice_or, name_from, name_at, optional_name_at, whole_at, ranged_at, ranged_or};
 
 use serde_json::Value;
 use sp_base::choice::{Choice, named};
@@ -21,6 +21,16 @@ pub fn text_at<'a>(value: &'a Value, key: &str) -> Option<&'a str>
     ensures { option_map (λ s. s.now) result ≡ text_at key.now (view value.now) }
 {
     value.get(key).and_then(Value::as_str)
+}
+
+/// The text in a field that may be absent. None where the field is there and is no text.
+pub fn optional_text_at<'a>(value: &'a Value, key: &str) -> Option<Option<&'a str>>
+    ensures { option_map (option_map (λ s. s.now)) result ≡ optional_text_at key.now (view value.now) }
+{
+    if !has_key(value, key) {
+        return Some(None);
+    }
+    text_at(value, key).map(Some)
 }
 
 /// The choice that a field names. None where the field is no word for one.

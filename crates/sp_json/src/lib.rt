@@ -10,6 +10,8 @@ pub mod members;
 pub mod names;
 pub mod parts;
 pub mod payloads;
+pub mod properties;
 pub mod refusals;
+pub mod selectors;
 pub mod subscriptions;
 pub mod told;

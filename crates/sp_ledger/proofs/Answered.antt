@@ -84,7 +84,7 @@ module _ (L : Ledger) where
       passed_on_found {X = EndpointView} Silent (UnknownEndpoint name) _ (queue_named name L.endpoints)
       (λ e found p. refl)
   silent caller (events.Publish m) = λ p. refl
-  silent caller (events.Bind name topic) =
+  silent caller (events.Bind name selector topic) =
       passed_unless Silent (topic_check topic) (on_found (named name L.endpoints) (UnknownEndpoint name) _)
       (passed_on_found {X = EndpointView} Silent (UnknownEndpoint name) _ (named name L.endpoints) (λ e found p. refl))
   silent caller (events.Unbind flow) =

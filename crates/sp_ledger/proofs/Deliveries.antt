@@ -5,11 +5,11 @@ use Rattle.sp_copies.specs.declared.made.MadeCopy.{MadeCopy}
 use Rattle.sp_ledger.proofs.HandedOut.{waiting, waits}
 use Rattle.sp_ledger.proofs.Listed.{and_right, none_found}
 use Rattle.sp_ledger.specs.Ledger.{Ledger, Published, message_of}
-use Rattle.sp_ledger.specs.OnFlows.{delivered, deliveries, pulled}
+use Rattle.sp_ledger.specs.OnFlows.{delivered, deliveries, may_take, pulled, reach}
 use Rattle.sp_ledger.specs.Sound.{IsSound, has_message}
 use Rattle.sp_message.specs.Size.{size_of}
 use Rattle.std.proofs.Common.{ap, refl}
-use Rattle.std.proofs.lemmas.List.Elements.{All-head, All-tail, All-take, All-weaker}
+use Rattle.std.proofs.lemmas.List.Elements.{All-filter, All-head, All-tail, All-take, All-weaker}
 use Rattle.std.proofs.lemmas.List.Folds.{list_any_none}
 use Rattle.std.specs.List.{cons_option}
 use Rattle.std.specs.Prelude.{All, Bool, IsTrue, List, None, Option, Some, [], false, is_some, map, not, option_map}
@@ -50,7 +50,8 @@ pub all_delivered : (L : Ledger) → IsSound L → (f : FlowView) (count : ℕ) 
     map (λ d. d.copy) (deliveries L (pulled L f count)) ≡ map (λ c. c.number) (pulled L f count)
 all_delivered L s f count =
     each_found L (pulled L f count)
-    (All-take (λ (c : MadeCopy). IsTrue (is_some (message_of L.messages c.message))) _
+    (All-take (λ (c : MadeCopy). IsTrue (is_some (message_of L.messages c.message))) _ (reach L f)
+    (All-filter (may_take L f) (λ (c : MadeCopy). IsTrue (is_some (message_of L.messages c.message)))
     (waiting_copies L.copies f.endpoint L.now)
     (All-weaker (λ (c : MadeCopy).
     (IsTrue (is_closed L.copies.closed c.number || has_message L.messages c) × IsTrue
@@ -60,7 +61,7 @@ all_delivered L s f count =
     (one (is_closed L.copies.closed c.number) h.0.0 (and_right (c.endpoint == f.endpoint) _ h.0.1)))
     (waiting_copies L.copies f.endpoint L.now)
     (waiting L.copies f.endpoint L.now
-    (λ (c : MadeCopy). IsTrue (is_closed L.copies.closed c.number || has_message L.messages c)) s.copies.messages)))
+    (λ (c : MadeCopy). IsTrue (is_closed L.copies.closed c.number || has_message L.messages c)) s.copies.messages))))
   where
     one : {there : Bool} (closed : Bool) → (closed || there) ≡ true → not closed ≡ true → there ≡ true
     one true h open_one = absurd (cc)

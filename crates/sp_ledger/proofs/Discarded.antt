@@ -20,13 +20,13 @@ use Rattle.sp_ledger.specs.Changes.{Change, all_changed, becomes, binds, changed
 use Rattle.sp_ledger.specs.Events.{outcome}
 use Rattle.sp_ledger.specs.Ledger.{Ledger}
 use Rattle.sp_ledger.specs.Limits.{spent}
-use Rattle.sp_ledger.specs.OnFlows.{bind, is_another, new_topic, outdated, topic_check}
+use Rattle.sp_ledger.specs.OnFlows.{bind, is_rebound, new_flow, new_topic, outdated, rebound, topic_check}
 use Rattle.sp_ledger.specs.Step.{accepted, begun, on_found}
 use Rattle.std.proofs.Common.{ap, append-nil, append_assoc, refl, subst, sym, ◌∙◌}
 use Rattle.std.proofs.lemmas.Bool.{and_from, eq-eqb}
 use Rattle.std.proofs.lemmas.List.Elements.{All-cons, All-nil, All-weaker}
 use Rattle.std.proofs.lemmas.List.Folds.{list_any-append, list_any_none}
-use Rattle.std.specs.Prelude.{All, Bool, List, None, Option, Some, [], cond, false, filter, fold, map, max, not, true}
+use Rattle.std.specs.Prelude.{All, Bool, List, Option, Some, [], cond, false, filter, fold, map, max, not, true}
 use Rattle.std.specs.Prelude.{unwrap_or, ℕ, ◌&&◌, ◌++◌, ◌<◌, ◌==◌, ◌∷◌, ◌≡◌}
 
 -- copies are discarded for their endpoint's topic, one after another
@@ -109,23 +109,29 @@ closes_discard : (cs : List MadeCopy) (L : Ledger) →
 closes_discard [] L = refl
 closes_discard (c ∷ cs) L = closes_discard cs (changed (closes c.number (Discarded TopicChanged)) L)
 
-module _ (L : Ledger) (moment : ℕ) (caller name : List ℕ) (topic : Option (List ℕ)) (e : EndpointView) where
+module _ (L : Ledger) (moment : ℕ) (caller name : List ℕ) (selector topic : Option (List ℕ)) (e : EndpointView) where
   abbrev B : Ledger
   B = begun moment L
 
   abbrev NoneOpen : List Change → Reply → Type 0
   NoneOpen changes reply = L.next.unit < spent → open_copies (all_changed changes B).copies e.number ≡ []
 
+  abbrev to : EndpointView → EndpointView
+  to x = rebound x selector topic
+
+  abbrev Other : Type 0
+  Other = is_rebound e (to e) ≡ true
+
   abbrev gone : EndpointView → List Change
-  gone x = map (λ (c : MadeCopy). closes c.number (Discarded TopicChanged)) (outdated B x topic)
+  gone x = map (λ (c : MadeCopy). closes c.number (Discarded TopicChanged)) (outdated B x (to x))
 
   abbrev bound : EndpointView → List Change
-  bound x = binds (record { number = L.next.flow; endpoint = x.number; caller = caller; selector = None }) ∷ []
+  bound x = binds (new_flow L.next.flow caller x selector) ∷ []
 
   abbrev more : EndpointView → List Change
-  more x = new_topic x topic ++ bound x
+  more x = new_topic x (to x) ++ bound x
 
-  none_here : is_another e.topic topic ≡ true → open_copies (all_changed (gone e) B).copies e.number ≡ []
+  none_here : Other → open_copies (all_changed (gone e) B).copies e.number ≡ []
   none_here other =
       subst (λ b. open_copies
       (all_changed (map (λ (c : MadeCopy). closes c.number (Discarded TopicChanged))
@@ -135,34 +141,33 @@ module _ (L : Ledger) (moment : ℕ) (caller name : List ℕ) (topic : Option (L
 
   -- another topic and a flow leave all copies
   more_leaves : (b : Bool) (N : Ledger) (f : FlowView) →
-      (all_changed (cond b (becomes (record e { topic = topic }) ∷ []) [] ++ binds f ∷ []) N).copies ≡ N.copies
+      (all_changed (cond b (becomes (to e) ∷ []) [] ++ binds f ∷ []) N).copies ≡ N.copies
   more_leaves true N f = refl
   more_leaves false N f = refl
 
   after_more : (N : Ledger) → open_copies N.copies e.number ≡ [] →
       open_copies (all_changed (more e) N).copies e.number ≡ []
   after_more N none = subst (λ (H : History). open_copies H e.number ≡ [])
-      (sym (more_leaves (is_another e.topic topic) N
-      (record { number = L.next.flow; endpoint = e.number; caller = caller; selector = None }))) none
+      (sym (more_leaves (is_rebound e (to e)) N (new_flow L.next.flow caller e selector))) none
 
-  after : is_another e.topic topic ≡ true → open_copies (all_changed (gone e ++ more e) B).copies e.number ≡ []
+  after : Other → open_copies (all_changed (gone e ++ more e) B).copies e.number ≡ []
   after other = subst (λ (N : Ledger). open_copies N.copies e.number ≡ [])
       (sym (changed_append (gone e) (more e) B)) (after_more (all_changed (gone e) B) (none_here other))
 
   -- the same of the list as a bind writes it
-  after_bind : is_another e.topic topic ≡ true → (x : EndpointView) → e ≡ x →
-      open_copies (all_changed (gone x ++ new_topic x topic ++ bound x) B).copies e.number ≡ []
+  after_bind : Other → (x : EndpointView) → e ≡ x →
+      open_copies (all_changed (gone x ++ new_topic x (to x) ++ bound x) B).copies e.number ≡ []
   after_bind other x same =
-      subst (λ y. open_copies (all_changed (gone y ++ new_topic y topic ++ bound y) B).copies e.number ≡ []) same
+      subst (λ y. open_copies (all_changed (gone y ++ new_topic y (to y) ++ bound y) B).copies e.number ≡ []) same
       (subst (λ cs. open_copies (all_changed cs B).copies e.number ≡ [])
-      (sym (append_assoc (gone e) (new_topic e topic) (bound e))) (after other))
+      (sym (append_assoc (gone e) (new_topic e (to e)) (bound e))) (after other))
 
   -- an accepted bind to another topic leaves none of the endpoint's copies spooled
   pub none_after_bind : (M : Ledger) (told : List Reply) →
-      outcome moment caller (events.Bind name topic) L ≡ accepted M told → named name L.endpoints ≡ Some e →
-      is_another e.topic topic ≡ true → open_copies M.copies e.number ≡ []
+      outcome moment caller (events.Bind name selector topic) L ≡ accepted M told →
+      named name L.endpoints ≡ Some e → Other → open_copies M.copies e.number ≡ []
   none_after_bind M told done found other =
-      where_accepted L B (λ N t. open_copies N.copies e.number ≡ []) (bind caller name topic B)
+      where_accepted L B (λ N t. open_copies N.copies e.number ≡ []) (bind caller name selector topic B)
       (passed_unless NoneOpen (topic_check topic) (on_found (named name L.endpoints) (UnknownEndpoint name) _)
       (passed_on_found {X = EndpointView} NoneOpen (UnknownEndpoint name) _ (named name L.endpoints)
       (λ x is p lt. after_bind other x (ap (λ o. unwrap_or o e) (sym found ∙ is)))))

@@ -10,11 +10,11 @@ use Rattle.sp_copies.specs.declared.held.HeldCopy.{HeldCopy}
 use Rattle.sp_copies.specs.declared.made.MadeCopy.{MadeCopy}
 use Rattle.sp_copies.specs.declared.made.NewCopy.{NewCopy}
 use Rattle.sp_endpoint.specs.Endpoint.{EndpointView}
-use Rattle.sp_endpoint.specs.Endpoints.{is_there, replaced, without_endpoint}
+use Rattle.sp_endpoint.specs.Endpoints.{replaced, without_endpoint}
 use Rattle.sp_ledger.proofs.CopiesKept.{AreKept, below_next, closed_kept, freed_kept, held_kept, kept_among, kept_of}
 use Rattle.sp_ledger.proofs.CopiesKept.{made_links, sound_of}
 use Rattle.sp_ledger.proofs.EndpointsKept.{after_becoming, after_coming, after_going, flows_among, flows_without}
-use Rattle.sp_ledger.proofs.EndpointsKept.{is_there_in_place, there-without, there_in_place}
+use Rattle.sp_ledger.proofs.EndpointsKept.{has_endpoint_in_place, there-without, there_in_place}
 use Rattle.sp_ledger.proofs.Listed.{All-any, All-both, and_both, and_left, any_grows, any_kept, any_last, pairs_map}
 use Rattle.sp_ledger.proofs.Logged.{logged_after}
 use Rattle.sp_ledger.proofs.Moving.{enough_left, fewer_movable, move_counts, moved_kept}
@@ -28,7 +28,7 @@ use Rattle.sp_ledger.specs.Changes.{unbinds, with_message}
 use Rattle.sp_ledger.specs.Ledger.{Ledger, Published, Replay}
 use Rattle.sp_ledger.specs.Limits.{greatest_quota}
 use Rattle.sp_ledger.specs.One.{is_bound_for, is_by_move}
-use Rattle.sp_ledger.specs.Sound.{AreReplays, IsSound, movable_count}
+use Rattle.sp_ledger.specs.Sound.{AreReplays, IsSound, has_endpoint, movable_count, suits_flow}
 use Rattle.sp_ledger.specs.Step.{begun}
 use Rattle.sp_message.specs.Size.{size_of}
 use Rattle.sp_message.specs.declared.message.Message.{Message}
@@ -70,7 +70,8 @@ comes_sound L e s may =
     L.copies.made s.one.open_there) (λ c is. is) (omega (arith, number)) (omega arith))
     s.copies.next (after_coming L e s.endpoints may) s.messages
     (flows_among L.next.flow L.endpoints (L.endpoints ++ e ∷ []) L.flows
-    (λ n is. any_grows {X = EndpointView} (λ d. d.number == n) L.endpoints (e ∷ []) is) s.flows) s.replays s.logged
+    (λ f is. any_grows {X = EndpointView} (λ d. (d.number == f.endpoint) && suits_flow d.kind f.selector)
+    L.endpoints (e ∷ []) is) s.flows) s.replays s.logged
     (record {
       endpoint = omega (arith, unspent);
       message = s.next.message;
@@ -98,7 +99,7 @@ becomes_sound L e s may =
     L.messages L.next.endpoint L.next.unit L.copies (kept_of L s) s.one.held.bound
     (there_in_place L e may L.copies.closed L.copies.made s.one.open_there) (λ c is. is) (omega arith) (omega arith))
     s.copies.next (after_becoming L e may L.next.endpoint s.endpoints) s.messages
-    (flows_among L.next.flow L.endpoints (replaced e L.endpoints) L.flows (is_there_in_place L e may) s.flows)
+    (flows_among L.next.flow L.endpoints (replaced e L.endpoints) L.flows (has_endpoint_in_place L e may) s.flows)
     s.replays s.logged s.next
 
 -- a message is published
@@ -181,7 +182,7 @@ binds_sound L f s may =
       below = All-push (λ (a : FlowView). a.number < f.number + 1) L.flows f
           (All-weaker (λ (a : FlowView). a.number < L.next.flow) (λ (a : FlowView). a.number < f.number + 1)
           (λ a lt. omega (arith, lt, number)) L.flows s.flows.below) (omega arith);
-      there = All-push (λ (a : FlowView). IsTrue (is_there L.endpoints a.endpoint)) L.flows f s.flows.there may.there;
+      there = All-push (λ (a : FlowView). IsTrue (has_endpoint L.endpoints a)) L.flows f s.flows.there may.there;
       callers = All-push (λ (a : FlowView). IsTrue (is_caller a.caller)) L.flows f s.flows.callers may.caller;
     })
     s.replays s.logged
@@ -211,7 +212,7 @@ unbinds_sound L flow s none =
     (record {
       rise = AllPairs-filter (λ (a b : FlowView). a.number < b.number) keep L.flows s.flows.rise;
       below = All-filter keep (λ (a : FlowView). a.number < L.next.flow) L.flows s.flows.below;
-      there = All-filter keep (λ (a : FlowView). IsTrue (is_there L.endpoints a.endpoint)) L.flows s.flows.there;
+      there = All-filter keep (λ (a : FlowView). IsTrue (has_endpoint L.endpoints a)) L.flows s.flows.there;
       callers = All-filter keep (λ (a : FlowView). IsTrue (is_caller a.caller)) L.flows s.flows.callers;
     })
     s.replays s.logged s.next

@@ -6,12 +6,13 @@ use Rattle.sp_copies.specs.declared.closed.ClosedCopy.{ClosedCopy}
 use Rattle.sp_copies.specs.declared.made.MadeCopy.{MadeCopy}
 use Rattle.sp_endpoint.specs.Endpoint.{EndpointView}
 use Rattle.sp_endpoint.specs.Endpoints.{is_there, replaced, without_endpoint}
-use Rattle.sp_ledger.proofs.Listed.{All-both, any_kept, any_mapped, none_counted, pairs_map}
+use Rattle.sp_ledger.proofs.Listed.{All-both, and_left, any_kept, any_mapped, any_where, none_counted, pairs_map}
 use Rattle.sp_ledger.proofs.OneKept.{OpenThere, there-weaker}
 use Rattle.sp_ledger.specs.Allowed.{MayBecome, MayCome}
 use Rattle.sp_ledger.specs.Ledger.{Ledger}
-use Rattle.sp_ledger.specs.Sound.{AreFlows, AreEndpoints, IsEndpoint}
-use Rattle.std.proofs.Common.{ap, arith, length-append, refl, subst, sym}
+use Rattle.sp_ledger.specs.Sound.{AreFlows, AreEndpoints, IsEndpoint, has_endpoint, suits_flow}
+use Rattle.sp_topic.proofs.Searches.{list_any-map}
+use Rattle.std.proofs.Common.{ap, arith, length-append, refl, subst, sym, ◌∙◌}
 use Rattle.std.proofs.lemmas.Bool.{eqb-true}
 use Rattle.std.proofs.lemmas.List.{length-map}
 use Rattle.std.proofs.lemmas.List.Elements.{All-filter, All-map, All-push, All-weaker}
@@ -134,19 +135,39 @@ module _ (L : Ledger) (new : EndpointView) (may : MayBecome L new) where
       any_mapped {X = EndpointView} (λ x. x.number == n) in_place
       (λ x here. subst (λ k. (k == n) ≡ true) (sym (in_place_number x)) here) L.endpoints is
 
+  in_place_kind : (x : EndpointView) → ((x.number == new.number) ≡ true → x.kind ≡ new.kind) →
+      (in_place x).kind ≡ x.kind
+  in_place_kind x same = one (x.number == new.number) refl
+    where
+      one : (b : Bool) → (x.number == new.number) ≡ b → (cond b new x).kind ≡ x.kind
+      one true is = sym (same is)
+      one false is = refl
+
+  pub has_endpoint_in_place : (f : FlowView) → has_endpoint L.endpoints f ≡ true →
+      has_endpoint (replaced new L.endpoints) f ≡ true
+  has_endpoint_in_place f is =
+      list_any-map suits in_place L.endpoints
+      ∙ any_where suits (λ x. suits (in_place x)) L.endpoints
+      (All-weaker (λ (x : EndpointView). (x.number == new.number) ≡ true → x.kind ≡ new.kind)
+      (λ (x : EndpointView). suits x ≡ true → suits (in_place x) ≡ true)
+      (λ x same here. rw (in_place_number x, in_place_kind x same) here) L.endpoints may.kind) is
+    where
+      suits : EndpointView → Bool
+      suits x = (x.number == f.endpoint) && suits_flow x.kind f.selector
+
   pub there_in_place : (closed : List ClosedCopy) (made : List MadeCopy) → OpenThere L.endpoints closed made →
       OpenThere (replaced new L.endpoints) closed made
   there_in_place closed made all = there-weaker L.endpoints (replaced new L.endpoints) is_there_in_place closed made all
 
 -- flows among other endpoints
 pub flows_among : (next : ℕ) (endpoints after : List EndpointView) (flows : List FlowView) →
-    ((n : ℕ) → is_there endpoints n ≡ true → is_there after n ≡ true) → AreFlows next endpoints flows →
-    AreFlows next after flows
+    ((f : FlowView) → has_endpoint endpoints f ≡ true → has_endpoint after f ≡ true) →
+    AreFlows next endpoints flows → AreFlows next after flows
 flows_among next endpoints after flows still are = record {
   rise = are.rise;
   below = are.below;
-  there = All-weaker (λ (f : FlowView). IsTrue (is_there endpoints f.endpoint))
-      (λ (f : FlowView). IsTrue (is_there after f.endpoint)) (λ f is. still f.endpoint is) flows are.there;
+  there = All-weaker (λ (f : FlowView). IsTrue (has_endpoint endpoints f))
+      (λ (f : FlowView). IsTrue (has_endpoint after f)) still flows are.there;
   callers = are.callers;
 }
 
@@ -158,14 +179,15 @@ flows_without next endpoint endpoints flows none are = record {
   rise = are.rise;
   below = are.below;
   there =
-      All-weaker (λ (f : FlowView). ((f.endpoint == endpoint) ≡ false) × IsTrue (is_there endpoints f.endpoint))
-      (λ (f : FlowView). IsTrue (is_there (without_endpoint endpoint endpoints) f.endpoint))
-      (λ f both. any_kept {X = EndpointView} (λ e. e.number == f.endpoint) (λ e. not (e.number == endpoint))
-      (λ e is. let same : e.number ≡ f.endpoint = eqb-true _ _ is in
+      All-weaker (λ (f : FlowView). ((f.endpoint == endpoint) ≡ false) × IsTrue (has_endpoint endpoints f))
+      (λ (f : FlowView). IsTrue (has_endpoint (without_endpoint endpoint endpoints) f))
+      (λ f both. any_kept {X = EndpointView} (λ e. (e.number == f.endpoint) && suits_flow e.kind f.selector)
+      (λ e. not (e.number == endpoint))
+      (λ e is. let same : e.number ≡ f.endpoint = eqb-true _ _ (and_left (e.number == f.endpoint) _ is) in
       subst (λ k. not (k == endpoint) ≡ true) (sym same) (ap not both.0)) endpoints both.1)
       flows
       (All-both (λ (f : FlowView). (f.endpoint == endpoint) ≡ false)
-      (λ (f : FlowView). IsTrue (is_there endpoints f.endpoint)) flows
+      (λ (f : FlowView). IsTrue (has_endpoint endpoints f)) flows
       (none_counted {X = FlowView} (λ f. f.endpoint == endpoint) flows none) are.there);
   callers = are.callers;
 }

@@ -74,7 +74,7 @@ it_is_counted = refl
 abbrev settled : Ledger
 settled =
     after
-    (events.Bind (codes "q1") None ∷ events.Pull 1 10 ∷ events.Settle 1 1 settling.Accepted ∷ []) one_message
+    (events.Bind (codes "q1") None None ∷ events.Pull 1 10 ∷ events.Settle 1 1 settling.Accepted ∷ []) one_message
 
 settled_once : asked (events.Settle 1 1 settling.Accepted) settled ≡ refused (NotHeld 1)
 settled_once = refl
@@ -104,13 +104,13 @@ one_copy = refl
 abbrev one_spooled : Ledger
 one_spooled =
     after
-    (events.Provision (codes "te") TopicEndpoint [] ∷ events.Bind (codes "te") (Some (codes "a/*")) ∷ on_topic
+    (events.Provision (codes "te") TopicEndpoint [] ∷ events.Bind (codes "te") None (Some (codes "a/*")) ∷ on_topic
     ∷ events.Unbind 1
     ∷ [])
     start
 
 abbrev other_topic : Event
-other_topic = events.Bind (codes "te") (Some (codes "c"))
+other_topic = events.Bind (codes "te") None (Some (codes "c"))
 
 it_is_discarded : told_by (asked other_topic one_spooled) ≡ replies.Bind (codes "te") 2 1 ∷ []
 unfolding matches
@@ -124,12 +124,12 @@ unfolding matches
 for_its_topic = refl
 
 not_while_bound :
-    asked (events.Bind (codes "te") (Some (codes "d"))) (after (other_topic ∷ []) one_spooled) ≡ refused (InUse 1 0)
+    asked (events.Bind (codes "te") None (Some (codes "d"))) (after (other_topic ∷ []) one_spooled) ≡ refused (InUse 1 0)
 unfolding matches
 not_while_bound = refl
 
 -- an exception is no topic to bind with, whether the endpoint is there or not
-no_exception : asked (events.Bind (codes "te") (Some (codes "!a"))) start ≡ refused (BadSubscription 0)
+no_exception : asked (events.Bind (codes "te") None (Some (codes "!a"))) start ≡ refused (BadSubscription 0)
 no_exception = refl
 
 -- no message gets the number 2^62

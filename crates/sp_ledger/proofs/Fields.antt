@@ -19,12 +19,12 @@ use Rattle.sp_ledger.specs.Allowed.{MayBecome}
 use Rattle.sp_ledger.specs.Ledger.{Ledger}
 use Rattle.sp_ledger.specs.Limits.{greatest_quota}
 use Rattle.sp_endpoint.specs.Endpoint.{new_endpoint}
-use Rattle.sp_ledger.specs.OnFlows.{fits_kind}
-use Rattle.sp_ledger.specs.Sound.{AreEndpoints, IsEndpoint, suits_kind}
+use Rattle.sp_ledger.specs.OnFlows.{fits_kind, flow_selector, own_selector}
+use Rattle.sp_ledger.specs.Sound.{AreEndpoints, IsEndpoint, suits_flow, suits_kind}
 use Rattle.std.proofs.Common.{ap, arith, refl, subst, sym, ◌∙◌}
 use Rattle.std.proofs.lemmas.Bool.{eq-eqb, eqb-true, leb-true, ltb-false}
 use Rattle.std.proofs.lemmas.List.Elements.{All-cons, All-weaker}
-use Rattle.std.specs.Prelude.{All, AllPairs, Bool, List, None, Option, Some, [], cond, false, find, is_some, length}
+use Rattle.std.specs.Prelude.{All, AllPairs, Bool, List, None, Option, Some, [], cond, false, find, is_none, is_some, length}
 use Rattle.std.specs.Prelude.{nat_le, nat_lt, not, option_map, true, ℕ, ◌<◌, ◌==◌, ◌∷◌, ◌≡◌, ◌≤◌}
 
 not_some : {X : Type 0} (found : Option X) → is_some found ≡ false → found ≡ None
@@ -91,11 +91,18 @@ pub texts_suit : (kind : EndpointKind) (texts : List (List ℕ)) (e : EndpointVi
 texts_suit Queue texts e is h = h
 texts_suit TopicEndpoint texts e is h = absurd (cc)
 
--- a topic that fits the kind suits it
-pub topic_suits : (kind : EndpointKind) (topic : Option (List ℕ)) (e : EndpointView) → fits_kind kind topic ≡ true →
-    suits_kind kind e ≡ true → suits_kind kind (record e { topic = topic }) ≡ true
-topic_suits Queue topic e is h = is
-topic_suits TopicEndpoint topic e is h = h
+-- a topic that fits the kind suits it, with a topic endpoint's own selector
+pub topic_suits : (kind : EndpointKind) (selector topic : Option (List ℕ)) (e : EndpointView) →
+    fits_kind kind topic ≡ true → suits_kind kind e ≡ true →
+    suits_kind kind (record e { topic = topic; selector = own_selector kind selector }) ≡ true
+topic_suits Queue selector topic e is h = and_both (is_none topic) true is refl
+topic_suits TopicEndpoint selector topic e is h = h
+
+-- the selector of a flow suits the kind of its endpoint
+pub flow_suits : (kind : EndpointKind) (selector : Option (List ℕ)) →
+    suits_flow kind (flow_selector kind selector) ≡ true
+flow_suits Queue selector = refl
+flow_suits TopicEndpoint selector = refl
 
 -- a new endpoint suits its kind
 pub new_suits : (kind : EndpointKind) (number : ℕ) (caller name : List ℕ) (settings : List Setting) →
@@ -137,11 +144,14 @@ module _ (p : EndpointView → Bool) (e : EndpointView) where
 -- other fields may stand in the place of an endpoint that was found
 pub may_become : (L : Ledger) (p : EndpointView → Bool) (e new : EndpointView) →
     AreEndpoints L.next.endpoint L.endpoints → find p L.endpoints ≡ Some e → new.number ≡ e.number →
-    new.name ≡ e.name → IsEndpoint new → MayBecome L new
-may_become L p e new are found number name fits = record {
+    new.name ≡ e.name → new.kind ≡ e.kind → IsEndpoint new → MayBecome L new
+may_become L p e new are found number name kind fits = record {
   named = All-weaker (IsOnly p e) (λ (x : EndpointView). (x.number == new.number) ≡ true → x.name ≡ new.name)
       (λ x only is. let same : x ≡ e = only (subst (λ n. (x.number == n) ≡ true) number is) in
       ap (λ (y : EndpointView). y.name) same ∙ sym name) L.endpoints (only_found p e L.endpoints are.rise found);
+  kind = All-weaker (IsOnly p e) (λ (x : EndpointView). (x.number == new.number) ≡ true → x.kind ≡ new.kind)
+      (λ x only is. let same : x ≡ e = only (subst (λ n. (x.number == n) ≡ true) number is) in
+      ap (λ (y : EndpointView). y.kind) same ∙ sym kind) L.endpoints (only_found p e L.endpoints are.rise found);
   fits = fits;
 }
 

@@ -9,7 +9,7 @@ use Rattle.sp_copies.specs.declared.made.MadeCopy.{MadeCopy}
 use Rattle.sp_ledger.proofs.Listed.{All-both, All-kept, and_both, and_left, and_right, any_self, lesser_is_not}
 use Rattle.sp_ledger.proofs.Listed.{pairs_take}
 use Rattle.sp_ledger.specs.Ledger.{Ledger}
-use Rattle.sp_ledger.specs.OnFlows.{pulled}
+use Rattle.sp_ledger.specs.OnFlows.{may_take, pulled, reach}
 use Rattle.std.proofs.Common.{ap, refl, ◌∙◌}
 use Rattle.std.proofs.lemmas.Bool.{eq-eqb}
 use Rattle.std.proofs.lemmas.List.Elements.{All-filter, All-take, All-weaker}
@@ -66,19 +66,24 @@ module _ (H : History) (e moment : ℕ) where
 -- what is pulled is free, was made in the flow's endpoint, and rises
 module _ (L : Ledger) (f : FlowView) (count : ℕ) where
   pub pulled_free : All (λ c. is_free L.copies c.number ≡ true) (pulled L f count)
-  pulled_free = All-take (λ (c : MadeCopy). is_free L.copies c.number ≡ true) _
-      (waiting_copies L.copies f.endpoint L.now) (waiting_free L.copies f.endpoint L.now)
+  pulled_free = All-take (λ (c : MadeCopy). is_free L.copies c.number ≡ true) _ (reach L f)
+      (All-filter (may_take L f) (λ (c : MadeCopy). is_free L.copies c.number ≡ true)
+      (waiting_copies L.copies f.endpoint L.now) (waiting_free L.copies f.endpoint L.now))
 
   pub pulled_in : All (λ c. list_any (in_endpoint L.copies f.endpoint L.now c) L.copies.made ≡ true) (pulled L f count)
   pulled_in = All-take (λ (c : MadeCopy). list_any (in_endpoint L.copies f.endpoint L.now c) L.copies.made ≡ true) _
-      (waiting_copies L.copies f.endpoint L.now) (waiting_in L.copies f.endpoint L.now)
+      (reach L f)
+      (All-filter (may_take L f) (λ (c : MadeCopy).
+      list_any (in_endpoint L.copies f.endpoint L.now c) L.copies.made ≡ true)
+      (waiting_copies L.copies f.endpoint L.now) (waiting_in L.copies f.endpoint L.now))
 
   pub pulled_rise : IsSoundHistory L.copies → AllPairs (λ c d. c.number < d.number) (pulled L f count)
   pulled_rise s =
-      pairs_take (λ (c d : MadeCopy). c.number < d.number) _ (waiting_copies L.copies f.endpoint L.now)
+      pairs_take (λ (c d : MadeCopy). c.number < d.number) _ (reach L f)
+      (AllPairs-filter (λ (c d : MadeCopy). c.number < d.number) (may_take L f) _
       (AllPairs-filter (λ (c d : MadeCopy). c.number < d.number) _ _
       (AllPairs-filter (λ (c d : MadeCopy). c.number < d.number) (is_open_in L.copies.closed f.endpoint)
-      L.copies.made s.rise))
+      L.copies.made s.rise)))
 
 -- a copy stays free where a lesser one is handed out
 pub still_free : (H : History) (flow c d : ℕ) → c < d → is_free H d ≡ true → is_free (with_held c flow H) d ≡ true

@@ -80,6 +80,14 @@ pub any_mapped : {X : Type 0} (p : X → Bool) (f : X → X) → ((x : X) → p 
     list_any p xs ≡ true → list_any p (map f xs) ≡ true
 any_mapped p f w xs h = list_any-map p f xs ∙ any_weaker p (λ x. p (f x)) w xs h
 
+-- what is found by one test is found by another where that passes each element that the first does
+pub any_where : {X : Type 0} (p q : X → Bool) (xs : List X) → All (λ x. p x ≡ true → q x ≡ true) xs →
+    list_any p xs ≡ true → list_any q xs ≡ true
+any_where p q [] all h = absurd (cc)
+any_where {X} p q (x ∷ xs) all h =
+    or_both (p x) (list_any p xs) (q x) (list_any q xs) (All-head (λ (y : X). p y ≡ true → q y ≡ true) x xs all)
+    (any_where p q xs (All-tail (λ (y : X). p y ≡ true → q y ≡ true) x xs all)) h
+
 -- each element that passes its own test is found by it
 pub any_self : {X : Type 0} (q : X → X → Bool) (xs : List X) → All (λ x. q x x ≡ true → list_any (q x) xs ≡ true) xs
 any_self {X} q [] = All-nil (λ (x : X). q x x ≡ true → list_any (q x) [] ≡ true)

@@ -82,7 +82,7 @@ module _ (L : Ledger) where
         (rise_each {X = EndpointView} 18 (quota_check B (size_of m)) (takers B.endpoints m) _ (λ e. refl)
         (omega arith, (omega arith, (omega arith, tt))))),
   )
-  step_rises caller (events.Bind name topic) B =
+  step_rises caller (events.Bind name selector topic) B =
       rise_unless (topic_check topic) (on_found (named name B.endpoints) (UnknownEndpoint name) _)
       (rise_found {X = EndpointView} (UnknownEndpoint name) _ (named name B.endpoints)
       (λ e. (omega arith, (omega arith, (omega arith, (omega arith, tt))))))

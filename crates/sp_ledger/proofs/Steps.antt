@@ -30,9 +30,9 @@ use Rattle.sp_ledger.proofs.CopiesKept.{kept_of}
 use Rattle.sp_ledger.proofs.Decided.{OnPassed, Passes, each_passes, passed_on_found, passed_unless, passed_weaker}
 use Rattle.sp_ledger.proofs.Decided.{parts_of, passes-append, where_accepted}
 use Rattle.sp_ledger.proofs.EachKind.{begun_sound, changes_sound, units_after}
-use Rattle.sp_ledger.proofs.EndpointsKept.{is_there_in_place}
+use Rattle.sp_ledger.proofs.EndpointsKept.{has_endpoint_in_place}
 use Rattle.sp_ledger.proofs.Fields.{allowed_keep_ranges, endpoint_found, may_become, new_suits, quota_below}
-use Rattle.sp_ledger.proofs.Fields.{settings_suit, texts_suit, topic_suits}
+use Rattle.sp_ledger.proofs.Fields.{flow_suits, settings_suit, texts_suit, topic_suits}
 use Rattle.sp_ledger.proofs.GivenBack.{held_by_held, held_by_rises, none_held}
 use Rattle.sp_ledger.proofs.HandedOut.{in_endpoint, pulled_free, pulled_in, pulled_rise}
 use Rattle.sp_ledger.proofs.Listed.{All-any, All-both, All-kept, and_both, and_left, and_right, any_found, any_self}
@@ -46,11 +46,11 @@ use Rattle.sp_ledger.specs.Events.{outcome, step}
 use Rattle.sp_ledger.specs.Ledger.{Ledger}
 use Rattle.sp_ledger.specs.Limits.{last_copy, most_endpoints, most_subscriptions, spent}
 use Rattle.sp_ledger.specs.OnEndpoints.{change_step, deprovision, provision, subscribe, unsubscribe}
-use Rattle.sp_ledger.specs.OnFlows.{bind, fits_kind, is_another, new_topic, outdated, pull, pulled, settle}
+use Rattle.sp_ledger.specs.OnFlows.{bind, fits_kind, is_rebound, new_flow, new_topic, outdated, pull, pulled, rebound, settle}
 use Rattle.sp_ledger.specs.OnFlows.{topic_check, unbind}
 use Rattle.sp_ledger.specs.One.{is_bound_for}
 use Rattle.sp_ledger.specs.Publish.{publish, quota_check, share_for}
-use Rattle.sp_ledger.specs.Sound.{IsEndpoint, IsLedger, IsSound}
+use Rattle.sp_ledger.specs.Sound.{IsEndpoint, IsLedger, IsSound, suits_flow}
 use Rattle.sp_ledger.specs.Step.{Step, accepted, begun, does, is_copy_spent, is_spent, on_found}
 use Rattle.sp_message.specs.Size.{size_of}
 use Rattle.sp_message.specs.declared.message.Message.{Message}
@@ -61,7 +61,7 @@ use Rattle.std.proofs.lemmas.List.Elements.{All-filter, All-map, All-weaker}
 use Rattle.std.proofs.lemmas.List.Kept.{AllPairs-filter}
 use Rattle.std.proofs.lemmas.List.Sums.{count_by-le-length, length-filter}
 use Rattle.std.specs.List.{list_any}
-use Rattle.std.specs.Prelude.{All, AllPairs, Bool, IsTrue, List, None, Option, Some, [], bytes_eq, cond, false, filter}
+use Rattle.std.specs.Prelude.{All, AllPairs, Bool, IsTrue, List, Option, Some, [], bytes_eq, cond, false, filter}
 use Rattle.std.specs.Prelude.{length, map, not, true, ℕ, ◌&&◌, ◌++◌, ◌+◌, ◌<◌, ◌==◌, ◌∷◌, ◌≡◌, ◌≤◌}
 
 abbrev Allowed : Ledger → List Change → Reply → Type 0
@@ -103,7 +103,7 @@ module _ (L : Ledger) (s : IsSound L) where
       (λ e found p.
       let old = endpoint_found L (λ x. bytes_eq x.name name) e s.endpoints found in (
         may_become L (λ x. bytes_eq x.name name) e (record e { attributes = with_settings settings e.attributes })
-            s.endpoints found refl refl
+            s.endpoints found refl refl refl
             (record {
               ranges = allowed_keep_ranges e.kind settings e.attributes old.ranges p.0;
               subscriptions = old.subscriptions;
@@ -119,7 +119,7 @@ module _ (L : Ledger) (s : IsSound L) where
   texts_allowed name queue texts found few =
       let p : EndpointView → Bool = λ x. is_queue x.kind && bytes_eq x.name name in
       let old = endpoint_found L p queue s.endpoints found in (
-        may_become L p queue (record queue { subscriptions = texts }) s.endpoints found refl refl
+        may_become L p queue (record queue { subscriptions = texts }) s.endpoints found refl refl refl
             (record {
               ranges = old.ranges;
               subscriptions = few;
@@ -210,9 +210,9 @@ module _ (L : Ledger) (s : IsSound L) where
       (any_self {X = MadeCopy} (λ c d. d.number == c.number) L.copies.made))
       (All-kept (is_open_in L.copies.closed e) L.copies.made))
 
-  outdated_allowed : (e : EndpointView) (topic : Option (List ℕ)) →
-      AreAllowed (map (λ c. closes c.number (closings.Discarded TopicChanged)) (outdated L e topic)) L
-  outdated_allowed e topic = one (is_another e.topic topic)
+  outdated_allowed : (e bound : EndpointView) →
+      AreAllowed (map (λ c. closes c.number (closings.Discarded TopicChanged)) (outdated L e bound)) L
+  outdated_allowed e bound = one (is_rebound e bound)
     where
       apart : AllPairs (λ c d. (c.number == d.number) ≡ false) (open_copies L.copies e.number)
       apart = λ i j d lt le. lesser_is_not _ _
@@ -226,20 +226,18 @@ module _ (L : Ledger) (s : IsSound L) where
       one false = tt
 
   -- another topic, and then a flow, where the copies were closed
-  topic_and_flow : (e : EndpointView) (topic : Option (List ℕ)) (H : History) (f : FlowView) →
-      MayBecome L (record e { topic = topic }) → MayBind L f →
-      AreAllowed (new_topic e topic ++ binds f ∷ []) (record L { copies = H })
-  topic_and_flow e topic H f may bind = one (is_another e.topic topic)
+  topic_and_flow : (e bound : EndpointView) (H : History) (f : FlowView) → MayBecome L bound → MayBind L f →
+      AreAllowed (new_topic e bound ++ binds f ∷ []) (record L { copies = H })
+  topic_and_flow e bound H f may bind = one (is_rebound e bound)
     where
-      one : (b : Bool) → AreAllowed (cond b (becomes (record e { topic = topic }) ∷ []) [] ++ binds f ∷ [])
-          (record L { copies = H })
+      one : (b : Bool) → AreAllowed (cond b (becomes bound ∷ []) [] ++ binds f ∷ []) (record L { copies = H })
       one true = (
-        record { named = may.named; fits = may.fits },
+        record { named = may.named; kind = may.kind; fits = may.fits },
         (
           record {
             number = bind.number;
             unspent = bind.unspent;
-            there = is_there_in_place L (record e { topic = topic }) may f.endpoint bind.there;
+            there = has_endpoint_in_place L bound may f bind.there;
             caller =
                 bind.caller;
           },
@@ -256,46 +254,47 @@ module _ (L : Ledger) (s : IsSound L) where
         tt,
       )
 
-  bind_allowed : (caller name : List ℕ) (topic : Option (List ℕ)) → is_caller caller ≡ true →
-      OnPassed (Allowed L) (bind caller name topic L)
-  bind_allowed caller name topic short =
+  bind_allowed : (caller name : List ℕ) (selector topic : Option (List ℕ)) → is_caller caller ≡ true →
+      OnPassed (Allowed L) (bind caller name selector topic L)
+  bind_allowed caller name selector topic short =
       passed_unless (Allowed L) (topic_check topic)
       (on_found (named name L.endpoints) (UnknownEndpoint name) on_endpoint)
       (passed_on_found {X = EndpointView} (Allowed L) (UnknownEndpoint name) on_endpoint (named name L.endpoints)
       (λ e found p.
       let old = endpoint_found L (λ x. bytes_eq x.name name) e s.endpoints found in
-      let new : EndpointView = record e { topic = topic } in
-      let f : FlowView = record { number = L.next.flow; endpoint = e.number; caller = caller; selector = None } in
-      let may = may_become L (λ x. bytes_eq x.name name) e new s.endpoints found refl refl
+      let new : EndpointView = rebound e selector topic in
+      let f : FlowView = new_flow L.next.flow caller e selector in
+      let may = may_become L (λ x. bytes_eq x.name name) e new s.endpoints found refl refl refl
       (record {
         ranges = old.ranges;
         subscriptions = old.subscriptions;
-        suits = topic_suits e.kind topic e (not_false _ p.0) old.suits;
+        suits = topic_suits e.kind selector topic e (not_false _ p.0) old.suits;
       }) in
-      let gone = map (λ (c : MadeCopy). closes c.number (closings.Discarded TopicChanged)) (outdated L e topic) in
-      let more = new_topic e topic ++ binds f ∷ [] in
-      let there = any_found {X = EndpointView} (λ x. bytes_eq x.name name) (λ x. x.number == e.number) L.endpoints e
-      found (eq-eqb e.number e.number refl) in
-      subst (λ cs. AreAllowed cs L) (sym (append_assoc gone (new_topic e topic) (binds f ∷ [])))
-      (allowed_append gone more L (outdated_allowed e topic)
-      (subst (AreAllowed more) (sym (closes_all (closings.Discarded TopicChanged) (outdated L e topic) L))
-      (topic_and_flow e topic (all_changed gone L).copies f may
+      let gone = map (λ (c : MadeCopy). closes c.number (closings.Discarded TopicChanged)) (outdated L e new) in
+      let more = new_topic e new ++ binds f ∷ [] in
+      let there = any_found {X = EndpointView} (λ x. bytes_eq x.name name)
+      (λ x. (x.number == e.number) && suits_flow x.kind f.selector) L.endpoints e found
+      (and_both (e.number == e.number) _ (eq-eqb e.number e.number refl) (flow_suits e.kind selector)) in
+      subst (λ cs. AreAllowed cs L) (sym (append_assoc gone (new_topic e new) (binds f ∷ [])))
+      (allowed_append gone more L (outdated_allowed e new)
+      (subst (AreAllowed more) (sym (closes_all (closings.Discarded TopicChanged) (outdated L e new) L))
+      (topic_and_flow e new (all_changed gone L).copies f may
       (record { number = refl; unspent = leb-false spent L.next.flow p.1.1.0; there = there; caller = short }))))))
     where
       on_endpoint : EndpointView → Step
       on_endpoint e =
           does (record { broken = not (fits_kind e.kind topic); refusal = BadSubscription 0 }
           ∷ record {
-            broken = is_another e.topic topic && not (flow_count L.flows e.number == 0);
+            broken = is_rebound e (rebound e selector topic) && not (flow_count L.flows e.number == 0);
             refusal = InUse (flow_count L.flows e.number) (spooled_count L.copies (Some e.number));
           }
           ∷ is_spent L.next.flow kinds.Flow
           ∷ [])
-          (map (λ c. closes c.number (closings.Discarded TopicChanged)) (outdated L e topic)
-          ++ new_topic e topic
-          ++ binds (record { number = L.next.flow; endpoint = e.number; caller = caller; selector = None })
+          (map (λ c. closes c.number (closings.Discarded TopicChanged)) (outdated L e (rebound e selector topic))
+          ++ new_topic e (rebound e selector topic)
+          ++ binds (new_flow L.next.flow caller e selector)
           ∷ [])
-          (replies.Bind e.name L.next.flow (length (outdated L e topic)))
+          (replies.Bind e.name L.next.flow (length (outdated L e (rebound e selector topic))))
 
   unbind_allowed : (caller : List ℕ) (flow : ℕ) → OnPassed (Allowed L) (unbind caller flow L)
   unbind_allowed caller flow =
@@ -355,7 +354,7 @@ module _ (L : Ledger) (s : IsSound L) where
   step_allowed caller short few (events.Subscribe name text) = subscribe_allowed name text
   step_allowed caller short few (events.Unsubscribe name text) = unsubscribe_allowed name text
   step_allowed caller short few (events.Publish m) = publish_allowed m
-  step_allowed caller short few (events.Bind name topic) = bind_allowed caller name topic short
+  step_allowed caller short few (events.Bind name selector topic) = bind_allowed caller name selector topic short
   step_allowed caller short few (events.Unbind flow) = unbind_allowed caller flow
   step_allowed caller short few (events.Pull flow count) = pull_allowed caller flow count few
   step_allowed caller short few (events.Settle flow copy outcome) = settle_allowed caller flow copy outcome

@@ -36,7 +36,7 @@ use Rattle.sp_ledger.specs.Changes.{Change, all_changed, all_shared, changed, ho
 use Rattle.sp_ledger.specs.Events.{outcome, step}
 use Rattle.sp_ledger.specs.Ledger.{Ledger, Published, message_of}
 use Rattle.sp_ledger.specs.Limits.{spent}
-use Rattle.sp_ledger.specs.OnFlows.{bind, delivered, deliveries, outdated, pull, pulled, settle, topic_check}
+use Rattle.sp_ledger.specs.OnFlows.{bind, delivered, deliveries, outdated, pull, pulled, rebound, settle, topic_check}
 use Rattle.sp_ledger.specs.Publish.{publish, share_for, told_copies}
 use Rattle.sp_ledger.specs.Sound.{IsSound}
 use Rattle.sp_ledger.specs.Step.{Check, accepted, begun, does, idle, on_found}
@@ -249,11 +249,12 @@ module _ (L : Ledger) (s : IsSound L) where
       (not_true (is_closed L.copies.closed copy) (and_right (is_made L.copies.made copy) _ spooled)))
       (none (with_closed copy closings.Accepted L.now L.copies)))
 
-  bind_tells : (caller name : List ℕ) (topic : Option (List ℕ)) → OnPassed Tells (bind caller name topic L)
-  bind_tells caller name topic =
+  bind_tells : (caller name : List ℕ) (selector topic : Option (List ℕ)) →
+      OnPassed Tells (bind caller name selector topic L)
+  bind_tells caller name selector topic =
       passed_unless Tells (topic_check topic) (on_found (named name L.endpoints) (UnknownEndpoint name) _)
       (tells_none {X = EndpointView} (UnknownEndpoint name) _ _
-      (λ e. replies.Bind e.name L.next.flow (length (outdated L e topic))) (λ e. refl) (named name L.endpoints))
+      (λ e. replies.Bind e.name L.next.flow (length (outdated L e (rebound e selector topic)))) (λ e. refl) (named name L.endpoints))
 
   -- what each event's reply tells holds
   pub step_tells : (caller : List ℕ) (event : Event) → OnPassed Tells (step caller event L)
@@ -271,7 +272,7 @@ module _ (L : Ledger) (s : IsSound L) where
       tells_none {X = EndpointView} (UnknownEndpoint name) _ _ (λ e. replies.Unsubscribe e.name) (λ e. refl)
       (queue_named name L.endpoints)
   step_tells caller (events.Publish m) = publish_tells m
-  step_tells caller (events.Bind name topic) = bind_tells caller name topic
+  step_tells caller (events.Bind name selector topic) = bind_tells caller name selector topic
   step_tells caller (events.Unbind flow) =
       tells_none {X = FlowView} (UnknownFlow flow) _ _ (λ f. replies.Unbind flow [] (length (held_by L.copies flow)))
       (λ f. refl) (flow_of L.flows caller flow)

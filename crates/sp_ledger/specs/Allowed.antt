@@ -13,7 +13,7 @@ use Rattle.sp_ledger.specs.Changes.{holds, logs, moves, publishes, repeats, star
 use Rattle.sp_ledger.specs.Ledger.{Ledger, Replay}
 use Rattle.sp_ledger.specs.Limits.{greatest_quota, last_copy, most_endpoints, spent}
 use Rattle.sp_ledger.specs.One.{is_bound_for, is_by_move, is_of_message}
-use Rattle.sp_ledger.specs.Sound.{AreLogged, IsEndpoint, has_message}
+use Rattle.sp_ledger.specs.Sound.{AreLogged, IsEndpoint, has_endpoint, has_message}
 use Rattle.sp_ledger.specs.Step.{Step, does, lacks}
 use Rattle.sp_message.specs.Size.{size_of}
 use Rattle.sp_message.specs.declared.message.Message.{Message}
@@ -28,9 +28,10 @@ pub record MayCome (L : Ledger) (e : EndpointView) : Type 0 where
   pub place : length L.endpoints < most_endpoints
   pub fits : IsEndpoint e
 
--- an endpoint of the same name as the one in whose place it stands
+-- an endpoint of the same name and kind as the one in whose place it stands
 pub record MayBecome (L : Ledger) (e : EndpointView) : Type 0 where
   pub named : All (λ d. (d.number == e.number) ≡ true → d.name ≡ e.name) L.endpoints
+  pub kind : All (λ d. (d.number == e.number) ≡ true → d.kind ≡ e.kind) L.endpoints
   pub fits : IsEndpoint e
 
 -- more bytes than any message has
@@ -63,7 +64,7 @@ pub record MayHold (L : Ledger) (copy flow : ℕ) : Type 0 where
 pub record MayBind (L : Ledger) (f : FlowView) : Type 0 where
   pub number : f.number ≡ L.next.flow
   pub unspent : f.number < spent
-  pub there : IsTrue (is_there L.endpoints f.endpoint)
+  pub there : IsTrue (has_endpoint L.endpoints f)
   pub caller : IsTrue (is_caller f.caller)
 
 -- a copy of a logged message, which fits

@@ -23,10 +23,11 @@ use Rattle.sp_ledger.specs.Changes.{Change, becomes, binds, closes, frees, holds
 use Rattle.sp_ledger.specs.Ledger.{Ledger, Published, message_of}
 use Rattle.sp_ledger.specs.Limits.{window}
 use Rattle.sp_ledger.specs.Step.{Check, Step, does, is_spent, on_found, rule, unless}
+use Rattle.sp_selector.specs.Takes.{passes}
 use Rattle.sp_topic.specs.Subscription.{is_exception}
-use Rattle.std.specs.Prelude.{Bool, List, None, Option, Some, [], bytes_eq, false, filter_map, if◌then◌else◌, is_none}
+use Rattle.std.specs.Prelude.{Bool, List, None, Option, Some, [], bytes_eq, false, filter, filter_map, if◌then◌else◌, is_none}
 use Rattle.std.specs.Prelude.{is_some, length, map, min, not, option_map, take, true, unwrap_or, ℕ, ◌&&◌, ◌++◌, ◌+◌}
-use Rattle.std.specs.Prelude.{◌-◌, ◌==◌, ◌∷◌}
+use Rattle.std.specs.Prelude.{◌-◌, ◌==◌, ◌||◌, ◌∷◌}
 
 -- a topic that an endpoint is bound with is no exception
 abbrev pub topic_check : Option (List ℕ) → Check
@@ -37,38 +38,65 @@ abbrev pub fits_kind : EndpointKind → Option (List ℕ) → Bool
 fits_kind Queue topic = is_none topic
 fits_kind TopicEndpoint topic = is_some topic
 
--- whether the topic is another than the endpoint has
+-- whether a text is another than there is
 abbrev pub is_another : Option (List ℕ) → Option (List ℕ) → Bool
-is_another None topic = is_some topic
-is_another (Some subscription) None = true
-is_another (Some subscription) (Some topic) = not (bytes_eq subscription topic)
+is_another None text = is_some text
+is_another (Some own) None = true
+is_another (Some own) (Some text) = not (bytes_eq own text)
 
--- the copies that another topic discards, in order of number: all that are spooled there
-abbrev pub outdated : Ledger → EndpointView → Option (List ℕ) → List MadeCopy
-outdated L e topic = if is_another e.topic topic then open_copies L.copies e.number else []
+-- the selector of a bind that is the endpoint's own: a topic endpoint asks it of what arrives
+abbrev pub own_selector : EndpointKind → Option (List ℕ) → Option (List ℕ)
+own_selector Queue selector = None
+own_selector TopicEndpoint selector = selector
 
--- another topic becomes the endpoint's
-abbrev pub new_topic : EndpointView → Option (List ℕ) → List Change
-new_topic e topic = if is_another e.topic topic then becomes (record e { topic = topic }) ∷ [] else []
+-- and the one that is the flow's: at a queue it is asked of what the flow may take
+abbrev pub flow_selector : EndpointKind → Option (List ℕ) → Option (List ℕ)
+flow_selector Queue selector = selector
+flow_selector TopicEndpoint selector = None
 
--- what another topic changes: what the old one brought is discarded, and the new one is the endpoint's
-abbrev pub topic_changes : Ledger → EndpointView → Option (List ℕ) → List Change
-topic_changes L e topic =
-    map (λ c. closes c.number (Discarded TopicChanged)) (outdated L e topic) ++ new_topic e topic
+-- the endpoint with the selector and the topic that it is bound with
+abbrev pub rebound : EndpointView → Option (List ℕ) → Option (List ℕ) → EndpointView
+rebound e selector topic = record e { topic = topic; selector = own_selector e.kind selector }
 
--- another topic is taken over, and a flow is bound under the next number
-abbrev pub bind : List ℕ → List ℕ → Option (List ℕ) → Ledger → Step
-bind caller name topic L =
+-- whether it has another topic or another selector then
+abbrev pub is_rebound : EndpointView → EndpointView → Bool
+is_rebound e bound = is_another e.topic bound.topic || is_another e.selector bound.selector
+
+-- the copies that another topic or selector discards, in order of number: all that are spooled there
+abbrev pub outdated : Ledger → EndpointView → EndpointView → List MadeCopy
+outdated L e bound = if is_rebound e bound then open_copies L.copies e.number else []
+
+-- another topic or selector becomes the endpoint's
+abbrev pub new_topic : EndpointView → EndpointView → List Change
+new_topic e bound = if is_rebound e bound then becomes bound ∷ [] else []
+
+-- what they change: what came by the old ones is discarded, and the new ones are the endpoint's
+abbrev pub topic_changes : Ledger → EndpointView → EndpointView → List Change
+topic_changes L e bound =
+    map (λ c. closes c.number (Discarded TopicChanged)) (outdated L e bound) ++ new_topic e bound
+
+-- a flow of a caller that is bound to an endpoint with a selector
+abbrev pub new_flow : ℕ → List ℕ → EndpointView → Option (List ℕ) → FlowView
+new_flow number caller e selector = record {
+  number = number;
+  endpoint = e.number;
+  caller = caller;
+  selector = flow_selector e.kind selector;
+}
+
+-- another topic or selector is taken over, and a flow is bound under the next number
+abbrev pub bind : List ℕ → List ℕ → Option (List ℕ) → Option (List ℕ) → Ledger → Step
+bind caller name selector topic L =
     unless (topic_check topic)
     (on_found (named name L.endpoints) (UnknownEndpoint name) (λ e.
+    let bound = rebound e selector topic in
     let flows = flow_count L.flows e.number in
     does (rule (not (fits_kind e.kind topic)) (BadSubscription 0)
-    ∷ rule (is_another e.topic topic && not (flows == 0)) (InUse flows (spooled_count L.copies (Some e.number)))
+    ∷ rule (is_rebound e bound && not (flows == 0)) (InUse flows (spooled_count L.copies (Some e.number)))
     ∷ is_spent L.next.flow kinds.Flow
     ∷ [])
-    (topic_changes L e topic
-    ++ binds (record { number = L.next.flow; endpoint = e.number; caller = caller; selector = None }) ∷ [])
-    (replies.Bind e.name L.next.flow (length (outdated L e topic)))))
+    (topic_changes L e bound ++ binds (new_flow L.next.flow caller e selector) ∷ [])
+    (replies.Bind e.name L.next.flow (length (outdated L e bound)))))
 
 -- what a flow of the caller holds is spooled again, in order of number, and the flow goes
 abbrev pub unbind : List ℕ → ℕ → Ledger → Step
@@ -78,9 +106,19 @@ unbind caller flow L =
     (map frees (held_by L.copies flow) ++ unbinds flow ∷ [])
     (replies.Unbind flow [] (length (held_by L.copies flow))))
 
--- what a flow may take: the spooled copies of its endpoint that no flow holds and whose deadline hasn't come
+-- whether a message that was published passes a selector
+abbrev pub is_taken : Option (List ℕ) → Option Published → Bool
+is_taken selector None = false
+is_taken selector (Some m) = passes selector m.message.properties
+
+-- whether a copy's message passes a flow's selector
+abbrev pub may_take : Ledger → FlowView → MadeCopy → Bool
+may_take L f c = is_taken f.selector (message_of L.messages c.message)
+
+-- what a flow may take: the spooled copies of its endpoint that no flow holds, whose deadline hasn't come, and whose
+-- message passes its selector
 abbrev pub reach : Ledger → FlowView → List MadeCopy
-reach L f = waiting_copies L.copies f.endpoint L.now
+reach L f = filter (may_take L f) (waiting_copies L.copies f.endpoint L.now)
 
 -- the first of them: as many as are asked for, and as the window leaves
 abbrev pub pulled : Ledger → FlowView → ℕ → List MadeCopy
@@ -94,6 +132,7 @@ delivered L c m = record {
   message = c.message;
   dest = m.message.dest;
   payload = m.message.payload;
+  properties = m.message.properties;
 }
 
 -- the same of each of some copies, in their order

@@ -7,19 +7,18 @@ use Rattle.sp_config.specs.declared.kind.EndpointKind.TheVariants.{Queue, TopicE
 use Rattle.sp_copies.specs.History.{History, is_closed, used_bytes}
 use Rattle.sp_copies.specs.declared.made.MadeCopy.{MadeCopy}
 use Rattle.sp_endpoint.specs.Endpoint.{EndpointView}
-use Rattle.sp_endpoint.specs.Endpoints.{is_there}
 use Rattle.sp_ledger.specs.Changes.{logged_size}
 use Rattle.sp_ledger.specs.Ledger.{Ledger, Log, Next, Published, Replay, message_of}
 use Rattle.sp_ledger.specs.Limits.{bytes_per_mb, greatest_quota, most_endpoints, most_subscriptions, spent}
 use Rattle.sp_ledger.specs.One.{IsOne, is_by_move}
 use Rattle.sp_message.specs.Size.{size_of}
 use Rattle.std.specs.List.{list_any, range_with_len}
-use Rattle.std.specs.Prelude.{All, AllPairs, Bool, IsTrue, List, bytes_eq, count_by, false, is_none, is_some, length}
+use Rattle.std.specs.Prelude.{All, AllPairs, Bool, IsTrue, List, Option, bytes_eq, count_by, false, is_none, is_some, length}
 use Rattle.std.specs.Prelude.{map, not, true, ℕ, ◌&&◌, ◌+◌, ◌-◌, ◌<◌, ◌==◌, ◌||◌, ◌≡◌, ◌≤◌, sum_by, [], ◌*◌}
 
--- only a queue has subscriptions and partitions, and only a topic endpoint a topic
+-- only a queue has subscriptions and partitions, and only a topic endpoint a topic and a selector
 abbrev pub suits_kind : EndpointKind → EndpointView → Bool
-suits_kind Queue e = is_none e.topic
+suits_kind Queue e = is_none e.topic && is_none e.selector
 suits_kind TopicEndpoint e = (length e.subscriptions == 0) && (e.attributes.partition_count == 0)
 
 -- the attributes are in their ranges, at most 100 subscriptions are there, and all suits the kind
@@ -41,11 +40,20 @@ pub record AreMessages (next : ℕ) (messages : List Published) : Type 0 where
   pub rise : AllPairs (λ m n. m.number < n.number) messages
   pub below : All (λ m. m.number < next) messages
 
+-- a flow on a topic endpoint has no selector: it is the endpoint's
+abbrev pub suits_flow : EndpointKind → Option (List ℕ) → Bool
+suits_flow Queue selector = true
+suits_flow TopicEndpoint selector = is_none selector
+
+-- whether a flow's endpoint is there, of a kind that its selector suits
+abbrev pub has_endpoint : List EndpointView → FlowView → Bool
+has_endpoint endpoints f = list_any (λ e. (e.number == f.endpoint) && suits_flow e.kind f.selector) endpoints
+
 -- the flows' numbers rise and are below the next one, their endpoints are there, and their callers' names are short
 pub record AreFlows (next : ℕ) (endpoints : List EndpointView) (flows : List FlowView) : Type 0 where
   pub rise : AllPairs (λ f g. f.number < g.number) flows
   pub below : All (λ f. f.number < next) flows
-  pub there : All (λ f. IsTrue (is_there endpoints f.endpoint)) flows
+  pub there : All (λ f. IsTrue (has_endpoint endpoints f)) flows
   pub callers : All (λ f. IsTrue (is_caller f.caller)) flows
 
 -- the replays' numbers rise and are below the next one

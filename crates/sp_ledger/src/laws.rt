@@ -19,7 +19,7 @@ ghost use Rattle.sp_ledger.specs.Changes.{Change, all_changed, changed};
 ghost use Rattle.sp_ledger.specs.Events.{outcome, step};
 ghost use Rattle.sp_ledger.specs.Ledger.{Ledger, Next, empty_ledger};
 ghost use Rattle.sp_ledger.specs.Limits.{last_copy, spent};
-ghost use Rattle.sp_ledger.specs.OnFlows.{deliveries, is_another, pulled};
+ghost use Rattle.sp_ledger.specs.OnFlows.{deliveries, is_rebound, pulled, rebound};
 ghost use Rattle.sp_ledger.specs.Rising.{NeverFall, checks_of};
 ghost use Rattle.sp_ledger.specs.Sound.{AreNext, IsLedger, IsSound, IsWhole};
 ghost use Rattle.sp_ledger.specs.Step.{accepted, begun, idle, refused};
@@ -143,10 +143,11 @@ pub fn a_message_goes_once_to_each_taker()
         takes_message m e ≡ true → Contains (takers L.endpoints m) e }
 {}
 
-/// Where a bind is accepted that gives an endpoint another topic, no copy that was made there
-/// is spooled any more.
+/// Where a bind is accepted that gives an endpoint another topic or selector, no copy that was made
+/// there is spooled any more.
 pub fn another_topic_leaves_no_old_copy()
-    ensures { (L : Ledger) (moment : ℕ) (caller name : List ℕ) (topic : Option (List ℕ)) (e : EndpointView)
-        (M : Ledger) (told : List Reply) → outcome moment caller (Bind name topic) L ≡ accepted M told →
-        named name L.endpoints ≡ Some e → is_another e.topic topic ≡ true → open_copies M.copies e.number ≡ [] }
+    ensures { (L : Ledger) (moment : ℕ) (caller name : List ℕ) (selector topic : Option (List ℕ)) (e : EndpointView)
+        (M : Ledger) (told : List Reply) → outcome moment caller (Bind name selector topic) L ≡ accepted M told →
+        named name L.endpoints ≡ Some e → is_rebound e (rebound e selector topic) ≡ true →
+        open_copies M.copies e.number ≡ [] }
 {}

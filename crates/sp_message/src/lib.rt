@@ -2,6 +2,7 @@
 #![tactic(auto)]
 
 pub mod decimal;
+pub mod laws;
 pub mod message;
 pub mod payload;
 pub mod property;

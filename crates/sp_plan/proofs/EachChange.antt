@@ -11,7 +11,7 @@ use Rattle.sp_plan.specs.declared.change.Change as own
 use Rattle.sp_plan.specs.declared.change.Change.TheVariants as made
 use Rattle.std.proofs.Common.{ap, refl, ◌∙◌}
 use Rattle.std.proofs.lemmas.List.{map-append}
-use Rattle.std.specs.Prelude.{List, Option, [], map, ℕ, ◌++◌, ◌∷◌, ◌≡◌}
+use Rattle.std.specs.Prelude.{List, [], map, ◌++◌, ◌∷◌, ◌≡◌}
 
 -- a change for each element
 pub each_change : {X : Type 0} (f : X → own.Change) (xs : List X) →
@@ -20,14 +20,14 @@ each_change f [] = refl
 each_change f (x ∷ xs) = ap (λ (cs : List Change). change_of (f x) ∷ cs) (each_change f xs)
 
 -- the changes of a bind
-pub bind_changes : (e : EndpointView) (topic : Option (List ℕ)) (copies : List MadeCopy)
+pub bind_changes : (e bound : EndpointView) (copies : List MadeCopy)
     (gone more all : List own.Change) (f : FlowView) →
     gone ≡ map (λ c. made.Closes c.number (Discarded TopicChanged)) copies →
-    changes_of more ≡ changes_of gone ++ new_topic e topic → all ≡ more ++ made.Binds f ∷ [] →
-    changes_of all ≡ map (λ c. closes c.number (Discarded TopicChanged)) copies ++ new_topic e topic ++ binds f ∷ []
-bind_changes e topic copies gone more all f closed topics last =
+    changes_of more ≡ changes_of gone ++ new_topic e bound → all ≡ more ++ made.Binds f ∷ [] →
+    changes_of all ≡ map (λ c. closes c.number (Discarded TopicChanged)) copies ++ new_topic e bound ++ binds f ∷ []
+bind_changes e bound copies gone more all f closed topics last =
     ap changes_of last
     ∙ (map-append change_of more (made.Binds f ∷ [])
     ∙ ap (λ (cs : List Change). cs ++ binds f ∷ [])
-    (topics ∙ ap (λ (cs : List Change). cs ++ new_topic e topic)
+    (topics ∙ ap (λ (cs : List Change). cs ++ new_topic e bound)
     (ap changes_of closed ∙ each_change {X = MadeCopy} (λ c. made.Closes c.number (Discarded TopicChanged)) copies)))

@@ -1,2 +1,3 @@
 pub mod EachChange
 pub mod Needed
+pub mod Taken

@@ -19,6 +19,9 @@ use std::alloc::{AllocError, Global};
 /// The first number of a kind that isn't drawn any more.
 pub const SPENT: u64 = GREATEST_NUMBER;
 
+/// The most copies that a flow holds.
+pub const WINDOW: u64 = 1000;
+
 /// No such endpoint is there.
 pub fn unknown_endpoint(name: Str) -> Declined<Refusal>
     ensures { result ≡ Refused (Refusal.UnknownEndpoint name) }

@@ -17,12 +17,8 @@ pub struct Plan {
 impl Model for Plan {
     ghost use Rattle.sp_plan.specs.Plan.{PlanState};
     ghost use Rattle.sp_plan.specs.Plan.{changes_of};
-    ghost use Rattle.sp_selector.specs.contracts.selector.Selector.{the_row as selector_row};
-    ghost use Rattle.std.specs.Coded.{codes};
 
     ghost Value = { PlanState };
-
-    ghost coded = { Prim.hlevel (codes, selector_row.coded) };
 
     ghost view = { λ p. record { changes = changes_of p.changes.items; reply = p.reply } };
 }

@@ -4,7 +4,7 @@ pub mod Parser
 pub mod Places
 pub mod Scan
 pub mod Selector
-pub mod Shown
+pub mod Takes
 pub mod Tree
 pub mod Values
 pub mod Wild

@@ -54,7 +54,7 @@ unfoldable pub selector_in : List ℕ → Result Expression ℕ
 selector_in text = if nat_lt 2000 (length text) then Err 2000 else where_utf8 (first_bad_byte text) (judgement (scan 0 0 text))
 
 -- what was answered, seen by `view`, is what the text says, unless there was no memory
-abbrev pub Answers : {A : Type 0} → (A → Expression) → Result A SelectorError → Result Expression ℕ → Type 0
+abbrev pub Answers : {A B : Type 0} → (A → B) → Result A SelectorError → Result B ℕ → Type 0
 Answers view (Ok x) r = r ≡ Ok (view x)
 Answers view (Err (error.Bad at)) r = r ≡ Err at
 Answers view (Err error.Memory) r = Unit {0}

@@ -1,8 +1,9 @@
-ghost use Rattle.std.specs.Prelude.{◌≡◌, ◌≤◌, ℕ, List, length, IfOk};
+ghost use Rattle.std.specs.Prelude.{◌≡◌, ◌≤◌, ℕ, List, bytes_eq, length, IfOk, OnOk};
 ghost use Rattle.sp_base.specs.Topic.{first_bad_byte};
 ghost use Rattle.sp_selector.specs.Parser.{Gives};
 ghost use Rattle.sp_selector.specs.Places.{IsBadAt};
 ghost use Rattle.sp_selector.specs.Selector.{Answers, IsSelector, is_true, judged, judgement, reading_of, selector_in};
+ghost use Rattle.sp_selector.specs.Takes.{passes, selector_fault, takes, tree_in};
 ghost use Rattle.sp_selector.specs.Tree.{Expression, expression};
 ghost use Rattle.sp_selector.specs.Values.{value};
 
@@ -12,8 +13,10 @@ use crate::parse::{Chain, ParseError, chained};
 use crate::scanned::{Scanned, allowed, scan};
 use crate::token::Token;
 use crate::tree::Tree;
-use sp_message::message::Message;
+use sp_base::bytes::Bytes;
+use sp_message::property::Properties;
 use std::alloc::{AllocError, Global};
+use std::marker::Model;
 use thiserror::Error;
 
 /// The most bytes that a selector's text has.
@@ -45,48 +48,122 @@ impl From<AllocError> for SelectorError {
     }
 }
 
-/// A condition over a message's properties, which contracts see as its tree.
+/// A condition over a message's properties, which contracts see as its text. What the text means is
+/// said by `takes` and by the grammar: no text has two trees.
 #[derive(Drop)]
 pub struct Selector {
+    text: Bytes,
     tree: Tree,
 }
 
-impl Selector {
-    ghost use Rattle.sp_selector.specs.Shown.{tree_of};
+impl Model for Selector {
+    ghost use Rattle.std.specs.Prelude.{List, ℕ};
+    ghost use Rattle.sp_selector.specs.Selector.{IsSelector};
+    ghost use Rattle.sp_selector.specs.Tree.{expression};
 
+    ghost Value = { List ℕ };
+
+    ghost view = { λ s. s.text };
+
+    ghost invariant = { λ s. IsSelector s.text (expression s.tree) };
+}
+
+impl Selector {
     /// The selector that a text is. Bad exactly where the text has no tree.
     pub fn read(alloc: Global, text: &[u8]) -> Result<Selector, SelectorError>
-        ensures tree { IfOk result (λ s. IsSelector text.now (tree_of s)) }
-        ensures only { IfOk result (λ s. (e : Expression) → IsSelector text.now e → tree_of s ≡ e) }
+        ensures read { IfOk result (λ s. s ≡ text.now) }
+        ensures form { OnOk result (selector_fault text.now ≡ None) }
+        ensures bad { (at : ℕ) → result ≡ Err (SelectorError.Bad at) → selector_fault text.now ≡ Some at }
+        ensures tree { OnOk result ((e : Expression) × IsSelector text.now e) }
         ensures none { (at : ℕ) (e : Expression) → result ≡ Err (SelectorError.Bad at) → IsSelector text.now e → ⊥ }
         ensures place { (at : ℕ) → result ≡ Err (SelectorError.Bad at) → IsBadAt text.now at }
     {
-        Selector::read_all(alloc, text)
-    }
-
-    fn read_all(alloc: Global, text: &[u8]) -> Result<Selector, SelectorError>
-        ensures { Answers tree_of result (selector_in text.now) }
-    {
         match read_tree(alloc, text) {
-            Ok(tree) => Ok(Selector { tree }),
+            Ok(tree) => Ok(Selector::of_tree(alloc, text, tree)?),
             Err(e) => Err(e),
         }
     }
 
-    /// Whether the selector's value for the message is TRUE. It takes no memory.
-    pub fn takes(&self, message: &Message) -> bool
-        ensures { result ≡ is_true (value (tree_of self.now) message.now.properties) }
+    fn of_tree(alloc: Global, text: &[u8], tree: Tree) -> Result<Selector, AllocError>
+        requires { IsSelector text.now (expression tree) }
+        ensures { IfOk result (λ s. s ≡ text.now) }
     {
-        match evaluate(&self.tree, &message.properties) {
-            Datum::Truth(truth) => truth,
-            Datum::Null | Datum::Number(_) | Datum::Text(_) => false,
+        Ok(Selector {
+            text: Bytes::copy_of(alloc, text)?,
+            tree,
+        })
+    }
+
+    /// The selector's text.
+    pub fn as_bytes(&self) -> &[u8]
+        ensures { result.now ≡ self.now }
+    {
+        self.text.as_slice()
+    }
+
+    /// Whether both selectors have the same text.
+    pub fn same(&self, other: &Selector) -> bool
+        ensures { result ≡ bytes_eq self.now other.now }
+    {
+        self.text.same(&other.text)
+    }
+
+    /// A second selector with the same text.
+    pub fn copy(&self, alloc: Global) -> Result<Selector, AllocError>
+        ensures { IfOk result (λ s. s ≡ self.now) }
+    {
+        match Selector::read(alloc, self.text.as_slice()) {
+            Ok(selector) => Ok(selector),
+            Err(SelectorError::Memory) => Err(AllocError),
+            Err(SelectorError::Bad { .. }) => unreachable!(),
         }
+    }
+
+    /// Whether the selector's value for these properties is TRUE. It takes no memory.
+    pub fn takes(&self, properties: &Properties) -> bool
+        ensures { result ≡ takes self.now properties.now }
+    {
+        is_true(&self.tree, properties)
     }
 }
 
-/// No text is a selector of two trees, or bad at two offsets.
-pub fn one_answer()
-    ensures tree { (text : List ℕ) (e f : Expression) → IsSelector text e → IsSelector text f → e ≡ f }
+fn is_true(tree: &Tree, properties: &Properties) -> bool
+    ensures { result ≡ is_true (value (expression tree.now) properties.now) }
+{
+    match evaluate(tree, properties) {
+        Datum::Truth(truth) => truth,
+        Datum::Null | Datum::Number(_) | Datum::Text(_) => false,
+    }
+}
+
+/// Whether these properties pass: a selector takes them, or there is none. It takes no memory.
+pub fn passes(selector: &Option<Selector>, properties: &Properties) -> bool
+    ensures { result ≡ passes selector.now properties.now }
+{
+    match selector {
+        None => true,
+        Some(selector) => selector.takes(properties),
+    }
+}
+
+/// A second selector with the same text, where there is one.
+pub fn copy_of(alloc: Global, selector: &Option<Selector>) -> Result<Option<Selector>, AllocError>
+    ensures { IfOk result (λ s. s ≡ selector.now) }
+{
+    match selector {
+        None => Ok(None),
+        Some(selector) => Ok(Some(selector.copy(alloc)?)),
+    }
+}
+
+/// What `takes` asks of a text is its tree by the grammar, of which there is one where the text is a
+/// selector, and none elsewhere. A text without a fault is a selector, and its fault is where it is bad,
+/// which no text is at two offsets.
+pub fn reading_is_by_the_grammar()
+    ensures derived { (text : List ℕ) (e : Expression) → tree_in text ≡ Some e → IsSelector text e }
+    ensures read { (text : List ℕ) (e : Expression) → IsSelector text e → tree_in text ≡ Some e }
+    ensures form { (text : List ℕ) → selector_fault text ≡ None → (e : Expression) × IsSelector text e }
+    ensures fault { (text : List ℕ) (at : ℕ) → selector_fault text ≡ Some at → IsBadAt text at }
     ensures place { (text : List ℕ) (a b : ℕ) → IsBadAt text a → IsBadAt text b → a ≡ b }
 {}
 

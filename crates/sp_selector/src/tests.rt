@@ -1,9 +1,5 @@
 use crate::selector::{Selector, SelectorError};
-use sp_base::bytes::Bytes;
-use sp_base::name::Name;
 use sp_base::text::Str;
-use sp_message::message::{Dest, Message, TimeToLive};
-use sp_message::payload::Payload;
 use sp_message::property::{Properties, Property};
 use sp_message::value::{Fixed, Value};
 use std::alloc::Global;
@@ -11,31 +7,21 @@ use std::process::Abort;
 use std::test::Fail;
 use std::thread::Builder;
 
-fn message(alloc: Global, properties: Properties) -> Result<Message, Fail> {
-    Ok(Message {
-        dest: Dest::Queue(Name::read(alloc, b"q1")?),
-        payload: Payload::from_bytes(Bytes::from_vec(Vec::new(alloc))),
-        ttl: TimeToLive::of(0),
-        eligible: false,
-        properties,
-    })
-}
-
-fn with_one(alloc: Global, name: &str, value: Value) -> Result<Message, Fail> {
+fn with_one(alloc: Global, name: &str, value: Value) -> Result<Properties, Fail> {
     let mut rows = Vec::new(alloc);
     rows.push(Property {
         name: Str::copy_of(alloc, name)?,
         value,
     })?;
-    message(alloc, Properties::from_vec(rows).ok_or("no properties")?)
+    Ok(Properties::from_vec(rows).ok_or("no properties")?)
 }
 
 fn text(alloc: Global, text: &str) -> Result<Value, Fail> {
     Ok(Value::Text(Str::copy_of(alloc, text)?))
 }
 
-fn takes(alloc: Global, selector: &str, message: &Message) -> Result<bool, Fail> {
-    Ok(Selector::read(alloc, selector.as_bytes())?.takes(message))
+fn takes(alloc: Global, selector: &str, properties: &Properties) -> Result<bool, Fail> {
+    Ok(Selector::read(alloc, selector.as_bytes())?.takes(properties))
 }
 
 // The offset at which a text is refused, and none where it is a selector.
@@ -80,7 +66,7 @@ fn an_escaped_underscore_is_itself(rt: HostRuntime) -> Result<(), Fail> {
 }
 
 // a is 7, b 2.5, c "x", d "50%", t TRUE and f FALSE.
-fn six(alloc: Global) -> Result<Message, Fail> {
+fn six(alloc: Global) -> Result<Properties, Fail> {
     let half = Fixed::read(b"2.5").ok_or("no number")?;
     let values = [
         ("a", Value::Whole(7)),
@@ -97,13 +83,13 @@ fn six(alloc: Global) -> Result<Message, Fail> {
             value,
         })?;
     }
-    message(alloc, Properties::from_vec(rows).ok_or("no properties")?)
+    Ok(Properties::from_vec(rows).ok_or("no properties")?)
 }
 
 fn each_is(rt: &impl Abort, alloc: Global, taken: bool, selectors: &[&str]) -> Result<(), Fail> {
-    let message = six(alloc)?;
+    let properties = six(alloc)?;
     for selector in selectors {
-        assert_eq!(rt; takes(alloc, selector, &message)?, taken, "{selector}");
+        assert_eq!(rt; takes(alloc, selector, &properties)?, taken, "{selector}");
     }
     Ok(())
 }
@@ -304,9 +290,9 @@ const LONGEST: [(&str, usize, &str, bool); 12] = [
 ];
 
 // How many of the texts are selectors that take the message or not, as they should.
-fn right_values(alloc: Global, texts: &[(String, bool)], message: &Message) -> usize {
+fn right_values(alloc: Global, texts: &[(String, bool)], properties: &Properties) -> usize {
     let right = texts.iter().filter(|row| match Selector::read(alloc, row.0.as_bytes()) {
-        Ok(selector) => selector.takes(message) == row.1,
+        Ok(selector) => selector.takes(properties) == row.1,
         Err(_) => false,
     });
     right.count()
@@ -315,14 +301,14 @@ fn right_values(alloc: Global, texts: &[(String, bool)], message: &Message) -> u
 #[test]
 fn the_longest_chains_have_a_value_on_a_stack_of_2_mib(rt: HostRuntime) -> Result<(), Fail> {
     let alloc = rt.alloc();
-    let message = six(alloc)?;
+    let properties = six(alloc)?;
     let mut texts = Vec::new(alloc);
     for (piece, times, end, taken) in LONGEST {
         texts.push((repeated(alloc, piece, times, end)?, taken))?;
     }
     let thread = Builder::new().stack_size(2 << 20).spawn(
         &rt,
-        move || right_values(alloc, texts.as_slice(), &message),
+        move || right_values(alloc, texts.as_slice(), &properties),
     )?;
     assert_eq!(rt; thread.join(&rt), LONGEST.len());
     Ok(())
@@ -332,14 +318,14 @@ fn the_longest_chains_have_a_value_on_a_stack_of_2_mib(rt: HostRuntime) -> Resul
 #[test]
 fn nested_parentheses_are_read_on_a_stack_of_4_mib(rt: HostRuntime) -> Result<(), Fail> {
     let alloc = rt.alloc();
-    let message = six(alloc)?;
+    let properties = six(alloc)?;
     let nested = repeated(alloc, "(", 200, "t")?;
     let closed = repeated(alloc, ")", 200, "")?;
     let mut texts = Vec::new(alloc);
     texts.push((format!(in alloc; "{nested}{closed}")?, true))?;
     let thread = Builder::new().stack_size(4 << 20).spawn(
         &rt,
-        move || right_values(alloc, texts.as_slice(), &message),
+        move || right_values(alloc, texts.as_slice(), &properties),
     )?;
     assert_eq!(rt; thread.join(&rt), 1);
     Ok(())
@@ -349,10 +335,10 @@ fn nested_parentheses_are_read_on_a_stack_of_4_mib(rt: HostRuntime) -> Result<()
 fn long_patterns_have_a_value(rt: HostRuntime) -> Result<(), Fail> {
     let alloc = rt.alloc();
     let long = repeated(alloc, "a", 8192, "")?;
-    let message = with_one(alloc, "x", text(alloc, long.as_str())?)?;
+    let properties = with_one(alloc, "x", text(alloc, long.as_str())?)?;
     let mut pattern = repeated(alloc, "%a", 400, "")?;
     pattern.push_str("%b")?;
     let selector = format!(in alloc; "x LIKE '{}'", pattern.as_str())?;
-    assert!(rt; !takes(alloc, selector.as_str(), &message)?);
+    assert!(rt; !takes(alloc, selector.as_str(), &properties)?);
     Ok(())
 }

@@ -11,6 +11,8 @@ mod numeral;
 pub mod parse;
 pub mod reader;
 pub mod run_tape;
+#[cfg(test)]
+mod selector_tests;
 pub mod status;
 #[cfg(test)]
 mod tests;

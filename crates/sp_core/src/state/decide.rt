@@ -52,7 +52,11 @@ impl Core {
                 subscription,
             } => self.decide_unsubscribe(alloc, endpoint, subscription),
             Event::Publish { message } => self.decide_publish(alloc, message),
-            Event::Bind { endpoint, topic } => self.decide_bind(alloc, caller, endpoint, topic),
+            Event::Bind {
+                endpoint,
+                selector,
+                topic,
+            } => self.decide_bind(alloc, caller, endpoint, selector, topic),
             Event::Unbind { flow } => self.decide_unbind(alloc, caller, *flow),
             Event::Pull { flow, count } => self.decide_pull(alloc, moment, caller, *flow, *count),
             Event::Settle {

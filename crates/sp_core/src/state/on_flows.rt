@@ -8,11 +8,10 @@ ghost use Rattle.sp_core.specs.Decided.{bind_plan, verdict};
 ghost use Rattle.sp_core.specs.Stands.{Stands};
 ghost use Rattle.sp_ledger.specs.Changes.{holds};
 ghost use Rattle.sp_ledger.specs.Ledger.{Ledger, message_of};
-ghost use Rattle.sp_ledger.specs.OnFlows.{bind, fits_kind, is_another, outdated, unbind, delivered, deliveries, pull, pulled, settle};
+ghost use Rattle.sp_ledger.specs.OnFlows.{bind, fits_kind, is_rebound, outdated, rebound, unbind, delivered, deliveries, may_take, pull, pulled, settle};
 ghost use Rattle.sp_ledger.specs.Step.{first_refusal, is_spent, rule, begun, unit_check};
-ghost use Rattle.std.specs.List.{cons_option};
 ghost use Rattle.std.specs.Option.{option_copied};
-ghost use Rattle.std.specs.Prelude.{◌≡◌, ◌&&◌, ◌==◌, ◌++◌, ◌∷◌, [], IfOk, None, OnOk, Some, map, not, true, ◌<◌, ◌^◌, length, option_map};
+ghost use Rattle.std.specs.Prelude.{◌≡◌, ◌&&◌, ◌==◌, ◌∷◌, [], IfOk, None, Some, filter, map, not, take, true, ◌<◌, ◌^◌, length, option_map};
 
 use crate::state::Core;
 use sp_access::flow::Flow;
@@ -27,17 +26,15 @@ use sp_copies::made::MadeCopy;
 use sp_endpoint::endpoint::Endpoint;
 use sp_event::answer::{Delivery, Reply};
 use sp_event::request::{Outcome, PullCount};
-use sp_plan::asking::{SPENT, unknown_endpoint, unknown_flow};
+use sp_plan::asking::{SPENT, WINDOW, unknown_endpoint, unknown_flow};
 use sp_plan::change::Change;
 use sp_plan::flow_changes::{binding, handed_out, new_flow, unbinding};
 use sp_plan::plan::Plan;
-use sp_plan::published::{Published, find_message};
-use sp_plan::topics::{fits_kind, is_another, is_exception};
+use sp_plan::published::{Published, delivered, find_message, first_taken, push_some};
+use sp_plan::topics::{fits_kind, is_exception, is_rebound, rebound};
+use sp_selector::selector::Selector;
 use sp_topic::subscription::Subscription;
 use std::alloc::{AllocError, Global};
-
-// The most copies that a flow holds.
-const WINDOW: u64 = 1000;
 
 impl Core {
     pub(crate) fn decide_bind(
@@ -45,10 +42,11 @@ impl Core {
         alloc: Global,
         caller: &Name,
         name: &Name,
+        selector: &Option<Selector>,
         topic: &Option<Subscription>,
     ) -> Result<Plan, Declined<Refusal>>
         requires { is_caller caller.now ≡ true }
-        ensures { (L : Ledger) → Stands self.now L → Obeys (verdict L (bind caller.now name.now topic.now L)) result }
+        ensures { (L : Ledger) → Stands self.now L → Obeys (verdict L (bind caller.now name.now selector.now topic.now L)) result }
     {
         if is_exception(topic) {
             return Err(Declined::Refused(Refusal::BadSubscription { at: 0 }));
@@ -56,22 +54,28 @@ impl Core {
         let Some(endpoint) = self.find(name) else {
             return Err(unknown_endpoint(name.text(alloc)?));
         };
-        match self.bind_refusal(endpoint, topic) {
+        let bound = rebound(alloc, endpoint, selector, topic)?;
+        match self.bind_refusal(endpoint, &bound, topic) {
             Some(refusal) => Err(Declined::Refused(refusal)),
-            None => Ok(self.bind_plan(alloc, caller, endpoint, topic)?),
+            None => Ok(self.bind_plan(alloc, caller, endpoint, bound, selector)?),
         }
     }
 
-    fn bind_refusal(&self, endpoint: &Endpoint, topic: &Option<Subscription>) -> Option<Refusal>
+    fn bind_refusal(
+        &self,
+        endpoint: &Endpoint,
+        bound: &Endpoint,
+        topic: &Option<Subscription>,
+    ) -> Option<Refusal>
         ensures { (L : Ledger) → Stands self.now L → result ≡ first_refusal (rule (not (fits_kind endpoint.now.kind topic.now)) (Refusal.BadSubscription 0)
-            ∷ rule (is_another endpoint.now.topic topic.now && not (flow_count L.flows endpoint.now.number == 0))
+            ∷ rule (is_rebound endpoint.now bound.now && not (flow_count L.flows endpoint.now.number == 0))
             (Refusal.InUse (flow_count L.flows endpoint.now.number) (spooled_count L.copies (Some endpoint.now.number)))
             ∷ is_spent L.next.flow Kind.Flow ∷ is_spent L.next.unit Kind.Unit ∷ []) }
     {
         if !fits_kind(endpoint.kind, topic) {
             return Some(Refusal::BadSubscription { at: 0 });
         }
-        if is_another(&endpoint.topic, topic) && self.flow_count(endpoint.number) != 0 {
+        if is_rebound(endpoint, bound) && self.flow_count(endpoint.number) != 0 {
             return Some(Refusal::InUse {
                 flows: self.flow_count(endpoint.number),
                 copies: self.spooled_count(endpoint.number),
@@ -88,20 +92,21 @@ impl Core {
         alloc: Global,
         caller: &Name,
         endpoint: &Endpoint,
-        topic: &Option<Subscription>,
+        bound: Endpoint,
+        selector: &Option<Selector>,
     ) -> Result<Plan, AllocError>
         requires { is_caller caller.now ≡ true }
-        ensures { IfOk result (λ plan. (L : Ledger) → Stands self.now L → plan ≡ bind_plan caller.now endpoint.now topic.now L) }
+        ensures { IfOk result (λ plan. (L : Ledger) → Stands self.now L → plan ≡ bind_plan caller.now endpoint.now bound selector.now L) }
     {
         let number = self.next_flow();
-        let copies = self.outdated(alloc, endpoint, topic)?;
+        let copies = self.outdated(alloc, endpoint, &bound)?;
         let reply = Reply::Bind {
             endpoint: endpoint.name.copy(alloc)?,
             flow: number,
             discarded: copies.len() as u64,
         };
-        let flow = new_flow(alloc, number, endpoint, caller)?;
-        let changes = binding(alloc, copies.as_slice(), endpoint, topic, flow)?;
+        let flow = new_flow(alloc, number, endpoint, caller, selector)?;
+        let changes = binding(alloc, copies.as_slice(), endpoint, bound, flow)?;
         Ok(Plan { changes, reply })
     }
 
@@ -111,16 +116,16 @@ impl Core {
         self.flows.next()
     }
 
-    // The copies that another topic discards, in order of number.
+    // The copies that another topic or selector discards, in order of number.
     fn outdated(
         &self,
         alloc: Global,
         endpoint: &Endpoint,
-        topic: &Option<Subscription>,
+        bound: &Endpoint,
     ) -> Result<Items<MadeCopy>, AllocError>
-        ensures { IfOk result (λ copies. (L : Ledger) → Stands self.now L → copies ≡ outdated L endpoint.now topic.now) }
+        ensures { IfOk result (λ copies. (L : Ledger) → Stands self.now L → copies ≡ outdated L endpoint.now bound.now) }
     {
-        if !is_another(&endpoint.topic, topic) {
+        if !is_rebound(endpoint, bound) {
             return Ok(Items::none(alloc));
         }
         self.copies.spooled_in(alloc, endpoint.number)
@@ -197,7 +202,7 @@ impl Core {
         Ok(Plan { changes, reply })
     }
 
-    // As many copies as are asked for, and as the window leaves.
+    // As many copies as are asked for, and as the window leaves, of those that pass the selector.
     fn pulled(
         &self,
         alloc: Global,
@@ -209,12 +214,23 @@ impl Core {
     {
         let held = self.held_count(flow.number);
         let most = count.min(WINDOW.saturating_sub(held as u64));
-        let mut waiting = self
-            .copies
-            .waiting(alloc, flow.endpoint, self.later(moment))?
-            .into_vec();
-        waiting.truncate(most as usize);
-        Ok(Items::from_vec(waiting))
+        let later = self.later(moment);
+        let waiting = self.copies.waiting(alloc, flow.endpoint, later)?;
+        self.first_taken(alloc, flow, waiting.as_slice(), most as usize)
+    }
+
+    // The first of the copies that the flow may take.
+    fn first_taken(
+        &self,
+        alloc: Global,
+        flow: &Flow,
+        copies: &[MadeCopy],
+        most: usize,
+    ) -> Result<Items<MadeCopy>, AllocError>
+        ensures { IfOk result (λ taken. (L : Ledger) → Stands self.now L → taken ≡ take most (filter (may_take L flow.now) copies.now)) }
+    {
+        let messages = self.messages.as_slice();
+        first_taken(alloc, messages, &flow.selector, copies, most)
     }
 
     fn held_count(&self, flow: FlowNo) -> usize
@@ -248,13 +264,10 @@ impl Core {
     {
         match self.message(copy.message) {
             None => Ok(None),
-            Some(published) => Ok(Some(Delivery {
-                attempt: self.attempts(copy.number) + 1,
-                copy: copy.number,
-                message: copy.message,
-                dest: published.message.dest.copy(alloc)?,
-                payload: published.message.payload.copy(alloc)?,
-            })),
+            Some(published) => {
+                let attempt = self.attempts(copy.number) + 1;
+                Ok(Some(delivered(alloc, attempt, copy, published)?))
+            }
         }
     }
 
@@ -304,14 +317,4 @@ impl Core {
         }
         self.unit_refusal()
     }
-}
-
-// Appends a delivery where there is one.
-fn push_some(told: &mut Vec<Delivery>, delivery: Option<Delivery>) -> Result<(), AllocError>
-    ensures { OnOk result (told.new.items ≡ told.old.items ++ cons_option delivery []) }
-{
-    if let Some(delivery) = delivery {
-        told.push(delivery)?;
-    }
-    Ok(())
 }

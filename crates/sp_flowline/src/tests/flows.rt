@@ -49,6 +49,15 @@ const FIELDS: &str = r#"bind|{"op":"bind","endpoint":"q1"}
 request 2|{"op":"bind"}
 request 3|{"op":"bind","endpoint":"q1","flow":1}
 request 4|{"op":"bind","endpoint":"q 1"}
+bind where a = 1|{"op":"bind","endpoint":"q1","selector":"a = 1"}
+request 4|{"op":"bind","endpoint":"q1","selector":5}
+request 4|{"op":"bind","endpoint":"q1","selector":null}
+selector 4|{"op":"bind","endpoint":"q1","selector":"a = "}
+selector 4|{"op":"bind","endpoint":"q1","selector":"a = = 1"}
+selector 7|{"op":"bind","endpoint":"q1","selector":"a LIKE 1"}
+selector 1|{"op":"bind","endpoint":"q1","selector":"1e5"}
+subscription 0|{"op":"bind","endpoint":"q1","selector":"a = ","topic":"!a"}
+request 4|{"op":"bind","endpoint":"q1","selector":5,"topic":"!a"}
 request 2|{"op":"unbind","count":1}
 request 3|{"op":"unbind","flow":1,"count":1}
 request 3|{"op":"pull","flow":-1,"copy":1}

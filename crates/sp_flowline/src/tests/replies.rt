@@ -8,6 +8,7 @@ use sp_copies::closed::{Cause, Fate};
 use sp_event::answer::{Answered, CopyDetails, CopyFate, Delivery, Reply};
 use sp_message::message::Dest;
 use sp_message::payload::Payload;
+use sp_message::property::Properties;
 use std::alloc::Global;
 use std::test::Fail;
 
@@ -60,6 +61,7 @@ fn delivery(alloc: Global, attempt: u64, payload: &[u8]) -> Result<Option<Delive
         message: MessageNo::of(1),
         dest: Dest::Queue(Name::read(alloc, b"q1")?),
         payload: Payload::from_bytes(bytes),
+        properties: Properties::none(alloc),
     }))
 }
 

@@ -40,6 +40,16 @@ fn asked(alloc: Global, ask: &Ask) -> Result<String, AllocError> {
                 ..
             },
         ) => format!(in alloc; "bind {}", topic.as_str()),
+        Ask::Do(
+            Event::Bind {
+                topic: None,
+                selector: Some(selector),
+                ..
+            },
+        ) => format!(in alloc;
+            "bind where {}",
+            str::from_utf8(selector.as_bytes()).unwrap_or("?")
+        ),
         Ask::Do(Event::Bind { topic: None, .. }) => String::from_str(alloc, "bind"),
         Ask::Do(Event::Unbind { flow }) => format!(in alloc; "{}", flow.value()),
         Ask::Do(Event::Pull { count, .. }) => format!(in alloc; "{}", count.value()),
@@ -97,6 +107,7 @@ fn refused(alloc: Global, refusal: &Refusal) -> Result<String, AllocError> {
         Refusal::DirectMode => String::from_str(alloc, "direct"),
         Refusal::BadTopic { at } => format!(in alloc; "bad topic {at}"),
         Refusal::BadSubscription { at } => format!(in alloc; "subscription {at}"),
+        Refusal::BadSelector { at } => format!(in alloc; "selector {at}"),
         Refusal::BadAttribute { name } => format!(in alloc; "attribute {}", name.as_str()),
         _ => String::from_str(alloc, "another"),
     }

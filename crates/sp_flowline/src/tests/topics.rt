@@ -6,6 +6,7 @@ use sp_base::topic::Topic;
 use sp_event::answer::{Answered, Delivery, Reply};
 use sp_message::message::Dest;
 use sp_message::payload::Payload;
+use sp_message::property::Properties;
 use std::alloc::{AllocError, Global};
 use std::test::Fail;
 
@@ -76,6 +77,7 @@ fn delivery(alloc: Global) -> Result<Delivery, Fail> {
         message: MessageNo::of(1),
         dest: Dest::Topic(Topic::read(alloc, b"a/b")?),
         payload: Payload::from_bytes(Bytes::from_vec(Vec::new(alloc))),
+        properties: Properties::none(alloc),
     })
 }
 
