@@ -10,7 +10,6 @@ pub mod Mends
 pub mod Near
 pub mod Numbers
 pub mod OnePlace
-pub mod Outcomes
 pub mod Parts
 pub mod Places
 pub mod Quotes

@@ -10,7 +10,8 @@ use Rattle.sp_selector.specs.declared.token.Token.TheVariants as token
 use Rattle.sp_selector.specs.declared.tree.Operator.{Operator}
 use Rattle.sp_selector.specs.declared.tree.Operator.TheVariants as operator
 use Rattle.sp_selector.specs.declared.tree.Sign.TheVariants.{Plus, Minus}
-use Rattle.sp_selector.specs.Grammar.{Level, Chained, Negation, Condition, Test, Factor, Primary, Derives, Texts, operand_of, joins, is_comparison, pattern_of}
+use Rattle.sp_selector.specs.Grammar.{Level, Chained, Negation, Condition, Test, Factor, Primary, Derives, Texts, operand_of, joins, is_comparison}
+use Rattle.sp_pattern.specs.Pattern.{pattern_of}
 use Rattle.sp_selector.specs.Grammar as rule
 use Rattle.sp_selector.specs.Parser.{◌>>=◌, Reading, Goal, Whole, Chain_after, Condition_after, after_and, after_close, after_open, after_null, null_test, texts_of, only_char, escape_of, chain_step, negation_step, comparison_step, condition_step, between_step, in_step, like_step, test_step, factor_step, parenthesis_step, mark_step, primary_step, step, reads}
 use Rattle.sp_selector.specs.Tree.{Expression}

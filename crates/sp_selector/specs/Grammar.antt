@@ -1,14 +1,13 @@
 -- The grammar of selectors, as a relation between tokens and trees.
-use Rattle.std.specs.Prelude.{◌≡◌, ◌==◌, ℕ, ℤ, Bool, if◌then◌else◌, true, false, List, [], ◌∷◌, Option, Some, None}
-use Rattle.std.specs.Str.{chars}
+use Rattle.std.specs.Prelude.{◌≡◌, ℕ, ℤ, Bool, true, false, List, [], ◌∷◌, Some, None}
 use Rattle.sp_selector.specs.declared.token.Mark.TheVariants as mark
 use Rattle.sp_selector.specs.declared.token.Token.{Token}
 use Rattle.sp_selector.specs.declared.token.Token.TheVariants as token
 use Rattle.sp_selector.specs.declared.tree.Operator.{Operator}
 use Rattle.sp_selector.specs.declared.tree.Operator.TheVariants.{Or, And, Equal, NotEqual, Less, AtMost}
 use Rattle.sp_selector.specs.declared.tree.Operator.TheVariants.{Greater, AtLeast, Add, Subtract, Multiply, Divide}
-use Rattle.sp_selector.specs.declared.tree.PatternItem.{PatternItem}
-use Rattle.sp_selector.specs.declared.tree.PatternItem.TheVariants.{Any, One, Exactly}
+use Rattle.std.specs.Str.{chars}
+use Rattle.sp_pattern.specs.Pattern.{pattern_of}
 use Rattle.sp_selector.specs.declared.tree.Sign.TheVariants.{Plus, Minus}
 use Rattle.sp_selector.specs.declared.parse.Chain.{Chain}
 use Rattle.sp_selector.specs.declared.parse.Chain.TheVariants.{Disjunction, Conjunction, Sum, Product}
@@ -50,29 +49,6 @@ is_comparison AtMost = true
 is_comparison Greater = true
 is_comparison AtLeast = true
 is_comparison op = false
-
--- a character of a pattern that stands for others, or for itself
-abbrev pub plain_item : ℕ → PatternItem
-plain_item c = if c == 37 then Any else (if c == 95 then One else Exactly c)
-
--- the character is the escape character, where there is one
-abbrev pub is_escape : Option ℕ → ℕ → Bool
-is_escape None c = false
-is_escape (Some e) c = e == c
-
--- the items of a pattern's characters: behind the escape character the next one stands for itself, and an escape
--- character at the end stands for itself
-abbrev pub items_from : Option ℕ → Bool → List ℕ → List PatternItem
-items_from escape false [] = []
-items_from None true [] = []
-items_from (Some e) true [] = Exactly e ∷ []
-items_from escape true (c ∷ cs) = Exactly c ∷ items_from escape false cs
-items_from escape false (c ∷ cs) =
-    if is_escape escape c then items_from escape true cs else plain_item c ∷ items_from escape false cs
-
--- the pattern that a text spells
-abbrev pub pattern_of : Option ℕ → List ℕ → List PatternItem
-pattern_of escape text = items_from escape false (chars text)
 
 -- texts between commas, up to the closing parenthesis
 pub data Texts : List Token → List (List ℕ) → List Token → Type 0 where

@@ -7,4 +7,3 @@ pub mod Selector
 pub mod Takes
 pub mod Tree
 pub mod Values
-pub mod Wild

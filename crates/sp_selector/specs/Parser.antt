@@ -12,7 +12,8 @@ use Rattle.sp_selector.specs.declared.token.Token.TheVariants as token
 use Rattle.sp_selector.specs.declared.tree.Operator.{Operator}
 use Rattle.sp_selector.specs.declared.tree.Operator.TheVariants.{And, Add, Subtract}
 use Rattle.sp_selector.specs.declared.tree.Sign.TheVariants.{Plus, Minus}
-use Rattle.sp_selector.specs.Grammar.{Level, Chained, Negation, Condition, Test, Factor, Primary, operand_of, joins, is_comparison, pattern_of}
+use Rattle.sp_selector.specs.Grammar.{Level, Chained, Negation, Condition, Test, Factor, Primary, operand_of, joins, is_comparison}
+use Rattle.sp_pattern.specs.Pattern.{pattern_of}
 use Rattle.sp_selector.specs.Tree.{Expression}
 use Rattle.sp_selector.specs.Tree as tree
 

@@ -1,7 +1,7 @@
 -- Trees of selectors.
 use Rattle.std.specs.Prelude.{ℕ, ℤ, Bool, List}
 use Rattle.sp_selector.specs.declared.tree.Operator.{Operator}
-use Rattle.sp_selector.specs.declared.tree.PatternItem.{PatternItem}
+use Rattle.sp_pattern.specs.declared.item.PatternItem.{PatternItem}
 use Rattle.sp_selector.specs.declared.tree.Sign.{Sign}
 use Rattle.sp_selector.specs.declared.tree.Tree.{Tree}
 use Rattle.sp_selector.specs.declared.tree.Tree.TheVariants as node

@@ -1,5 +1,5 @@
 -- The value of a tree for a message.
-use Rattle.std.specs.Prelude.{◌==◌, ◌*◌, ◌-◌, ◌^◌, ℕ, ℤ, pos, ◌+ℤ◌, ◌-ℤ◌, ◌*ℤ◌, neg_ℤ, unsigned_abs, int_div, Bool, true, false, not, ◌&&◌, ◌||◌, List, [], ◌∷◌, Option, Some, None, if◌then◌else◌, bytes_eq, nat_le}
+use Rattle.std.specs.Prelude.{◌==◌, ◌*◌, ◌-◌, ◌^◌, ℕ, ℤ, pos, ◌+ℤ◌, ◌-ℤ◌, ◌*ℤ◌, neg_ℤ, unsigned_abs, int_div, Bool, true, false, not, List, Option, Some, None, if◌then◌else◌, bytes_eq, nat_le}
 use Rattle.std.specs.List.{list_any}
 use Rattle.std.specs.declared.cmp.Ordering.{Ordering}
 use Rattle.std.specs.Ordering.{int_cmp, int_eq, is_lt, is_le, is_gt, is_ge}
@@ -10,8 +10,7 @@ use Rattle.sp_message.specs.declared.value.Value.TheVariants as kind
 use Rattle.sp_message.specs.Property.{value_under}
 use Rattle.sp_selector.specs.declared.tree.Operator.{Operator}
 use Rattle.sp_selector.specs.declared.tree.Operator.TheVariants.{Or, And, Equal, NotEqual, Less, AtMost, Greater, AtLeast, Add, Subtract, Multiply, Divide}
-use Rattle.sp_selector.specs.declared.tree.PatternItem.{PatternItem}
-use Rattle.sp_selector.specs.declared.tree.PatternItem.TheVariants.{Any, One, Exactly}
+use Rattle.sp_pattern.specs.Pattern.{matches}
 use Rattle.sp_selector.specs.declared.tree.Sign.{Sign}
 use Rattle.sp_selector.specs.declared.tree.Sign.TheVariants.{Plus, Minus}
 use Rattle.sp_selector.specs.declared.datum.Datum.{Datum}
@@ -133,21 +132,6 @@ abbrev pub signed : Sign → Datum → Datum
 signed Plus (Number z) = Number z
 signed Minus (Number z) = Number (neg_ℤ z)
 signed sign d = Null
-
--- from this place on or from a later one
-abbrev pub at_some_place : (List ℕ → Bool) → List ℕ → Bool
-at_some_place test [] = test []
-at_some_place test (c ∷ cs) = test (c ∷ cs) || at_some_place test cs
-
--- the characters match the pattern
-abbrev pub matches : List PatternItem → List ℕ → Bool
-matches [] [] = true
-matches [] (c ∷ cs) = false
-matches (Any ∷ items) cs = at_some_place (matches items) cs
-matches (One ∷ items) [] = false
-matches (One ∷ items) (c ∷ cs) = matches items cs
-matches (Exactly e ∷ items) [] = false
-matches (Exactly e ∷ items) (c ∷ cs) = (e == c) && matches items cs
 
 -- a test of a text: UNKNOWN for NULL, FALSE for another kind than text
 abbrev pub of_text : (List ℕ → Bool) → Datum → Option Bool

@@ -3,15 +3,17 @@ ghost use Rattle.std.specs.List.{list_any};
 ghost use Rattle.std.specs.Option.{option_copied};
 ghost use Rattle.std.specs.Str.{chars};
 ghost use Rattle.sp_selector.specs.Tree.{expression};
-ghost use Rattle.sp_selector.specs.Values.{alike, and_of, applied, compared, computed, is_null, matches, not_of, numbers_compared, of_text, of_truth, of_value, or_of, signed, truth_of, value};
+ghost use Rattle.sp_selector.specs.Values.{alike, and_of, applied, compared, computed, is_null, not_of, numbers_compared, of_text, of_truth, of_value, or_of, signed, truth_of, value};
+ghost use Rattle.sp_pattern.specs.Pattern.{matches};
 
 use crate::datum::{Datum, Lent};
-use crate::like::matches;
 use crate::number::{MILLION, bounded, product, quotient};
-use crate::tree::{Operator, PatternItem, Sign, Tree};
+use crate::tree::{Operator, Sign, Tree};
 use sp_base::text::Str;
 use sp_message::property::Properties;
 use sp_message::value::{Fixed, Value};
+use sp_pattern::item::PatternItem;
+use sp_pattern::like::matches;
 
 /// The value of a tree for the properties of a message. It takes no memory.
 pub fn evaluate<'a>(tree: &'a Tree, properties: &'a Properties) -> Datum<'a>

@@ -4,12 +4,12 @@ ghost use Rattle.std.specs.Str.{chars};
 ghost use Rattle.sp_selector.specs.Grammar.{is_comparison, joins};
 ghost use Rattle.sp_selector.specs.Parser.{Gives, after_and, after_close, after_null, after_open, escape_of, joint, only_char, texts_of};
 
-use crate::like::first_char;
 use crate::parse::{Chain, ParseError};
 use crate::token::{Mark, Token};
 use crate::tree::Operator;
 use sp_base::items::Items;
 use sp_base::text::Str;
+use sp_pattern::like::first_char;
 use std::alloc::{AllocError, Global};
 
 /// The operator of a chain with which tokens begin, and what follows it.

@@ -4,10 +4,8 @@
 mod datum;
 mod evaluate;
 mod follow;
-mod like;
 mod number;
 mod parse;
-mod pattern;
 mod scan;
 mod scanned;
 pub mod selector;

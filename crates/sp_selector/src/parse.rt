@@ -7,9 +7,9 @@ ghost use Rattle.sp_selector.specs.Parser.{Chain_after, Condition_after, Gives, 
 ghost use Rattle.sp_selector.specs.Tree.{Binary, expression};
 
 use crate::follow::{after_and, after_mark, escape, is_comparison, joint, texts};
-use crate::pattern::pattern;
 use crate::token::{Mark, Token};
 use crate::tree::{Operator, Sign, Tree};
+use sp_pattern::pattern::pattern;
 use std::alloc::{AllocError, Global};
 
 /// Operands of one kind with operators between them, which are grouped from the left.

@@ -1,6 +1,7 @@
 use sp_base::items::Items;
 use sp_base::text::Str;
 use sp_message::value::Fixed;
+use sp_pattern::item::PatternItem;
 
 /// What stands between two operands.
 #[derive(Clone, Copy, Debug, PartialEq, Eq)]
@@ -24,17 +25,6 @@ pub enum Operator {
 pub enum Sign {
     Plus,
     Minus,
-}
-
-/// A part of a pattern.
-#[derive(Clone, Copy, Debug, PartialEq, Eq)]
-pub enum PatternItem {
-    /// `%`: any characters, or none.
-    Any,
-    /// `_`: one character.
-    One,
-    /// The character itself.
-    Exactly(char),
 }
 
 /// A selector's tree.

@@ -2,8 +2,8 @@ use Rattle.std.proofs.Common.{◌≡◌, ◌+◌, ◌*◌, length}
 use denote.Text.{Utf8}
 use denote.Shadow.{shadow}
 use Rattle.std.specs.Str.{chars}
-use Rattle.sp_selector.specs.Wild.{first_outcome, outcome}
-use Rattle.sp_selector.proofs.like.+like.Given as goal
+use Rattle.sp_pattern.specs.Wild.{first_outcome, outcome}
+use Rattle.sp_pattern.proofs.like.+like.Given as goal
 
 abbrev pub decreases-try_place : goal.decreases-try_place
 decreases-try_place l = 2 * length l.items.now

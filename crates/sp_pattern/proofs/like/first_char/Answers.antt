@@ -2,7 +2,7 @@ use Rattle.std.proofs.Common.{◌≡◌, ◌∙◌, ◌++◌, ℕ, List, [], ◌
 use Rattle.std.specs.Str.{chars}
 use Rattle.std.proofs.lemmas.Str.{chars-nil, chars_past_char}
 use lib.Utf8.{encode}
-use Rattle.sp_selector.proofs.like.first_char.Goals as goal
+use Rattle.sp_pattern.proofs.like.first_char.Goals as goal
 
 no_bytes : (text : List ℕ) → length text ≡ 0 → text ≡ []
 no_bytes [] h = refl

@@ -1,8 +1,8 @@
 use Rattle.std.proofs.Common.{◌∙◌}
 use Rattle.std.specs.Str.{chars}
-use Rattle.sp_selector.specs.Wild.{outcome}
-use Rattle.sp_selector.proofs.Outcomes.{match_here, ended_here}
-use Rattle.sp_selector.proofs.like.+like.Goals as goal
+use Rattle.sp_pattern.specs.Wild.{outcome}
+use Rattle.sp_pattern.proofs.Outcomes.{match_here, ended_here}
+use Rattle.sp_pattern.proofs.like.+like.Goals as goal
 
 pub try_places-returns-in-Match : goal.try_places-returns-in-Match
 try_places-returns-in-Match t c = match_here (outcome c.args.items.now) (chars c.loop-more.rest.now) c.in-Match.ensures ∙ c.loop-more.invariant.1

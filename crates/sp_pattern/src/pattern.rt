@@ -1,13 +1,13 @@
 ghost use Rattle.std.specs.Prelude.{◌≡◌, IfOk};
-ghost use Rattle.sp_selector.specs.Grammar.{is_escape, pattern_of, plain_item};
+ghost use Rattle.sp_pattern.specs.Pattern.{is_escape, pattern_of, plain_item};
 
+use crate::item::PatternItem;
 use crate::like::first_char;
-use crate::tree::PatternItem;
 use sp_base::items::Items;
 use std::alloc::{AllocError, Global};
 
 /// The items of a pattern with this escape character, if there is one.
-pub(crate) fn pattern(
+pub fn pattern(
     alloc: Global,
     escape: Option<char>,
     text: &str,
@@ -34,7 +34,7 @@ pub(crate) fn pattern(
     Ok(Items::from_vec(items))
 }
 
-pub(crate) fn is_escape(escape: Option<char>, c: char) -> bool
+fn is_escape(escape: Option<char>, c: char) -> bool
     ensures { result ≡ is_escape escape c }
 {
     match escape {
@@ -43,7 +43,7 @@ pub(crate) fn is_escape(escape: Option<char>, c: char) -> bool
     }
 }
 
-pub(crate) fn plain_item(c: char) -> PatternItem
+fn plain_item(c: char) -> PatternItem
     ensures { result ≡ plain_item c }
 {
     match c {

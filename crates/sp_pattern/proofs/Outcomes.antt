@@ -1,12 +1,12 @@
 -- The outcome at a place tells whether the pattern matches there, and sometimes that no later place does.
 use Rattle.std.proofs.Common.{◌≡◌, ◌∙◌, ℕ, Bool, true, false, List, [], ◌∷◌, refl, sym, ap, subst}
 use Rattle.std.specs.Prelude.{◌==◌, ◌&&◌, ◌||◌, if◌then◌else◌}
-use Rattle.sp_selector.specs.declared.like.Outcome.{Outcome}
-use Rattle.sp_selector.specs.declared.like.Outcome.TheVariants.{Match, NoMatch, TextEnded}
-use Rattle.sp_selector.specs.declared.tree.PatternItem.{PatternItem}
-use Rattle.sp_selector.specs.declared.tree.PatternItem.TheVariants.{Any, One, Exactly}
-use Rattle.sp_selector.specs.Values.{at_some_place, matches}
-use Rattle.sp_selector.specs.Wild.{first_outcome, or_later, outcome}
+use Rattle.sp_pattern.specs.declared.like.Outcome.{Outcome}
+use Rattle.sp_pattern.specs.declared.like.Outcome.TheVariants.{Match, NoMatch, TextEnded}
+use Rattle.sp_pattern.specs.declared.item.PatternItem.{PatternItem}
+use Rattle.sp_pattern.specs.declared.item.PatternItem.TheVariants.{Any, One, Exactly}
+use Rattle.sp_pattern.specs.Pattern.{at_some_place, matches}
+use Rattle.sp_pattern.specs.Wild.{first_outcome, or_later, outcome}
 
 -- what an outcome says of a test at this place and at later ones
 abbrev pub Tells : Outcome → (List ℕ → Bool) → List ℕ → Type 0

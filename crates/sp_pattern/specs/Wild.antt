@@ -1,9 +1,9 @@
 -- Matching a pattern without trying places in vain.
 use Rattle.std.specs.Prelude.{◌==◌, ℕ, List, [], ◌∷◌, if◌then◌else◌}
-use Rattle.sp_selector.specs.declared.like.Outcome.{Outcome}
-use Rattle.sp_selector.specs.declared.like.Outcome.TheVariants.{Match, NoMatch, TextEnded}
-use Rattle.sp_selector.specs.declared.tree.PatternItem.{PatternItem}
-use Rattle.sp_selector.specs.declared.tree.PatternItem.TheVariants.{Any, One, Exactly}
+use Rattle.sp_pattern.specs.declared.like.Outcome.{Outcome}
+use Rattle.sp_pattern.specs.declared.like.Outcome.TheVariants.{Match, NoMatch, TextEnded}
+use Rattle.sp_pattern.specs.declared.item.PatternItem.{PatternItem}
+use Rattle.sp_pattern.specs.declared.item.PatternItem.TheVariants.{Any, One, Exactly}
 
 -- the first outcome that isn't NoMatch, from this place on
 abbrev pub or_later : Outcome → Outcome → Outcome

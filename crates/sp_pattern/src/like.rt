@@ -1,9 +1,9 @@
 ghost use Rattle.std.specs.Prelude.{◌≡◌, ◌∷◌, ◌<◌, [], length, MatchOption, IfSome};
 ghost use Rattle.std.specs.Str.{chars};
-ghost use Rattle.sp_selector.specs.Values.{matches};
-ghost use Rattle.sp_selector.specs.Wild.{first_outcome, outcome};
+ghost use Rattle.sp_pattern.specs.Pattern.{matches};
+ghost use Rattle.sp_pattern.specs.Wild.{first_outcome, outcome};
 
-use crate::tree::PatternItem;
+use crate::item::PatternItem;
 
 /// What became of a pattern at a place of a text.
 #[derive(Clone, Copy, Debug, PartialEq, Eq)]
@@ -78,7 +78,7 @@ fn try_places(items: &[PatternItem], text: &str) -> Outcome
 }
 
 /// The first character of a text and what follows it.
-pub(crate) fn first_char(text: &str) -> Option<(char, &str)>
+pub fn first_char(text: &str) -> Option<(char, &str)>
     ensures value { MatchOption result (chars text.now ≡ []) (λ x. chars text.now ≡ x.0 ∷ chars x.1.now) }
     ensures shorter { IfSome result (λ x. length x.1.now < length text.now) }
 {
