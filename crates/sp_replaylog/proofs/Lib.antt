@@ -1,0 +1,5 @@
+pub mod Numbers
+pub mod Order
+pub mod Plans
+pub mod Running
+pub mod Suffixes
