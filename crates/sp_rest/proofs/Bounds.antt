@@ -1,14 +1,14 @@
 -- What is unfinished is shorter than the longest head and the longest body together.
-use Rattle.std.proofs.Common.{◌≡◌, ℕ, ◌+◌, ◌<◌, ◌≤◌, inl, inr, Bool, true, false, ◌&&◌, List, [], ◌∷◌, ◌++◌, length, length-append, take, drop, map, sym, ap, ◌∙◌, arith, take-append-drop, append_assoc, Some, None, refl}
+use Rattle.std.proofs.Common.{◌≡◌, ℕ, ◌<◌, ◌≤◌, inl, inr, Bool, true, false, ◌&&◌, List, [], ◌∷◌, ◌++◌, length, length-append, take, drop, map, sym, ap, ◌∙◌, arith, take-append-drop, append_assoc, Some, None, refl}
 use Rattle.std.specs.Prelude.{nat_le, unwrap_or}
 use Rattle.std.specs.List.{filter}
 use Rattle.std.specs.Str.Parse.{digits_value}
 use Rattle.std.proofs.lemmas.Bool.{cond-false, and_parts, leb-true, leb-false}
 use Rattle.std.proofs.lemmas.Option.{cond_some}
 use Rattle.std.proofs.lemmas.List.{take-append-le, take_at}
-use Rattle.httparse.specs.Grammar.{ReadsRequest, print_request}
+use Rattle.httparse.specs.Grammar.{print_request}
 use Rattle.httparse.specs.Spans.{name_and_value}
-use Rattle.sp_rest.specs.declared.wire.request.Request.{Request}
+use Rattle.sp_rest.specs.Wire.Parts.{Request}
 use Rattle.sp_rest.specs.declared.wire.request.Cut.{Cut}
 use Rattle.sp_rest.specs.declared.wire.request.Cut.TheVariants.{Whole, Partial, Hopeless}
 use Rattle.sp_rest.specs.Wire.Request.{is_number, length_by, body_length, Begins, NoRequest, MayBecome}
@@ -26,7 +26,7 @@ length_small (pair ∷ []) n e =
 length_small (pair ∷ other ∷ pairs) n e = let none : None ≡ Some n = e in absurd (cc)
 
 -- no head gives a longer body
-body_small : (pairs : List Pair) (n : ℕ) → body_length pairs ≡ Some n → n ≤ 8388608
+pub body_small : (pairs : List Pair) (n : ℕ) → body_length pairs ≡ Some n → n ≤ 8388608
 body_small pairs n e =
     let parts = good_parts pairs (n, e) in
     length_small (filter is_size pairs) n (sym (cond-false _ _ _ parts.plain) ∙ e)

@@ -2,10 +2,14 @@ pub mod Bounds
 pub mod Codes
 pub mod Completions
 pub mod Fields
+pub mod Folds
 pub mod Heads
 pub mod Lengths
+pub mod Possible
+pub mod Prefixes
 pub mod Requests
 pub mod Sections
 pub mod Splits
 pub mod Targets
+pub mod Texts
 pub mod Trims

@@ -6,7 +6,7 @@ use Rattle.httparse.specs.Grammar.{RequestHead, ReadsRequest, print_request, Has
 use Rattle.httparse.specs.Spans.{name_and_value}
 use Rattle.httparse.proofs.GrammarLemmas.{request_unique, ReadsRequest-append}
 use Rattle.sp_rest.specs.declared.wire.request.Field.{Field}
-use Rattle.sp_rest.specs.declared.wire.request.Request.{Request}
+use Rattle.sp_rest.specs.Wire.Parts.{Request}
 use Rattle.sp_rest.specs.Wire.Request.{IsHead, body_length, Begins, NoRequest, NeverRequest, MayBecome, IsTargetOpen, shown, IsRequestOf}
 use Rattle.sp_rest.proofs.Completions.{print_size}
 use Rattle.sp_rest.specs.Wire.Heads.{NeverHead}
@@ -97,6 +97,15 @@ begins bytes h len rest request used head fits is size =
       request_is = is;
       used_is = omega arith;
     }
+
+-- the parts of a head, and the bytes behind it, are a request
+pub parts_begin : (bytes : List ℕ) (h : RequestHead) (place : ℕ) (request : Request) → IsHead bytes h (length request.body) (drop place bytes) → place ≡ length (print_request h)
+    → request.method ≡ h.method → request.target ≡ h.target → map shown request.fields ≡ map name_and_value h.fields → take (length request.body) (drop place bytes) ≡ request.body
+    → Begins bytes request (place + length request.body)
+parts_begin bytes h place request head size method target fields body =
+    let len : length (take (length request.body) (drop place bytes)) ≡ length request.body = ap length body in
+    begins bytes h (length request.body) (drop place bytes) request (place + length request.body) head (omega (arith, length-take (length request.body) (drop place bytes)))
+    (record { method = method; target = target; fields = fields; body_is = sym body }) (omega arith)
 
 fields_back : (fields : List Field) → map field_of (map shown fields) ≡ fields
 fields_back [] = refl

@@ -1,2 +1,3 @@
+pub mod Publish
 pub mod Statuses
 pub mod Wire

@@ -4,6 +4,7 @@ pub mod Completions
 pub mod Cutting
 pub mod Fronts
 pub mod Heads
+pub mod Parts
 pub mod Request
 pub mod Response
 pub mod Targets

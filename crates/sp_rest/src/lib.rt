@@ -3,6 +3,7 @@
 //! `wire` has the bytes alone. `status` says which status code an answer has, and it alone knows answers.
 #![tactic(auto)]
 
+pub mod publish;
 pub mod status;
 #[cfg(test)]
 mod tests;

@@ -1,6 +1,6 @@
 -- By cases on what was cut.
 use Rattle.std.specs.Prelude.{ℕ, ⊤}
-use Rattle.sp_rest.specs.declared.wire.request.Request.{Request}
+use Rattle.sp_rest.specs.Wire.Parts.{Request}
 use Rattle.sp_rest.specs.declared.wire.request.Cut.{Cut}
 use Rattle.sp_rest.specs.declared.wire.request.Cut.TheVariants.{Whole, Partial, Hopeless}
 

@@ -6,7 +6,7 @@ use Rattle.std.specs.Str.Parse.{digits_value}
 use Rattle.httparse.specs.Grammar.{RequestHead, ReadsRequest, print_request, EndsInTarget}
 use Rattle.httparse.specs.Spans.{name_and_value}
 use Rattle.sp_rest.specs.declared.wire.request.Field.{Field}
-use Rattle.sp_rest.specs.declared.wire.request.Request.{Request}
+use Rattle.sp_rest.specs.Wire.Parts.{Request}
 
 -- the field has the name, without regard to ASCII case
 abbrev pub is_named : List ℕ → List ℕ × List ℕ → Bool
@@ -59,6 +59,10 @@ pub record Begins (bytes : List ℕ) (request : Request) (used : ℕ) : Type 0 w
   pub head : IsHead bytes h (length body) (body ++ rest)
   pub request_is : IsRequestOf request h body
   pub used_is : used ≡ length (print_request h) + length body
+
+-- some bytes begin with the request
+abbrev pub IsPossible : Request → Type 0
+IsPossible request = (bytes : List ℕ) × (used : ℕ) × Begins bytes request used
 
 -- no prefix of the bytes is a request
 abbrev pub NoRequest : List ℕ → Type 0

@@ -1,10 +1,11 @@
-ghost use Rattle.std.specs.Prelude.{◌≡◌, ◌<◌, ◌≤◌, ℕ, IfOk, All, length, map};
-ghost use Rattle.httparse.specs.Grammar.{RequestHead, HasNoRequest, MayBecomeRequest};
-ghost use Rattle.httparse.specs.Spans.{IsRequestAt, IsRequestWithin, header_bytes, IsHeaderWithin};
-ghost use Rattle.sp_rest.specs.Wire.Request.{Begins, NoRequest, NeverRequest, MayBecome, IsTargetOpen, shown, IsRequestOf};
+ghost use Rattle.std.specs.Prelude.{◌≡◌, ◌+◌, ◌<◌, ◌≤◌, ℕ, IfOk, All, drop, length, map};
+ghost use Rattle.std.specs.Io.{StartsWith};
+ghost use Rattle.httparse.specs.Grammar.{HasNoRequest, MayBecomeRequest};
+ghost use Rattle.httparse.specs.Spans.{IsRequestWithin, header_bytes, IsHeaderWithin};
+ghost use Rattle.sp_rest.specs.Wire.Request.{Begins, NoRequest, NeverRequest, MayBecome, IsTargetOpen, shown};
 ghost use Rattle.sp_rest.specs.Wire.Cutting.{IfWhole, OnPartial, OnHopeless};
 ghost use Rattle.sp_rest.specs.Wire.Heads.{IsHeadAt};
-ghost use Rattle.sp_rest.specs.declared.wire.request.Request.{Request};
+ghost use Rattle.sp_rest.specs.Wire.Parts.{Request};
 ghost use Rattle.sp_rest.specs.declared.wire.request.Cut.TheVariants.{Whole, Hopeless};
 
 use crate::wire::completion::may_become;
@@ -101,19 +102,16 @@ fn request_at(
     spans: RequestSpans,
     body: &[u8],
 ) -> Result<Request, AllocError>
-    requires { IsRequestWithin bytes.now room.now spans }
-    ensures { IfOk result (λ request. (h : RequestHead) → IsRequestAt bytes.now room.now spans h → IsRequestOf request h body.now) }
+    requires head { IsHeadAt bytes.now room.now spans (length body.now) }
+    requires within { IsRequestWithin bytes.now room.now spans }
+    requires follows { StartsWith (drop spans.len bytes.now) body.now }
+    ensures { IfOk result (λ request. Begins bytes.now request (spans.len + length body.now)) }
 {
     let method = Bytes::copy_of(alloc, spans.method.of(bytes))?;
     let target = Bytes::copy_of(alloc, spans.path.of(bytes))?;
     let fields = fields(alloc, bytes, &room[..spans.headers])?;
     let body = Bytes::copy_of(alloc, body)?;
-    Ok(Request {
-        method,
-        target,
-        fields,
-        body,
-    })
+    Ok(Request::of(method, target, fields, body))
 }
 
 fn fields(alloc: Global, bytes: &[u8], headers: &[HeaderSpan]) -> Result<Items<Field>, AllocError>

@@ -126,10 +126,10 @@ fn a_request_is_the_same_byte_by_byte(rt: HostRuntime) -> Result<(), Fail> {
     match cut(alloc, bytes)? {
         Cut::Whole { request, used } => {
             assert_eq!(rt; used, bytes.len());
-            assert_eq!(rt; request.method.as_slice(), b"POST".as_slice());
-            assert_eq!(rt; request.target.as_slice(), b"/TOPIC/a%2Fb".as_slice());
-            assert_eq!(rt; request.body.as_slice(), b"hello".as_slice());
-            let fields = request.fields.as_slice();
+            assert_eq!(rt; request.method(), b"POST".as_slice());
+            assert_eq!(rt; request.target(), b"/TOPIC/a%2Fb".as_slice());
+            assert_eq!(rt; request.body(), b"hello".as_slice());
+            let fields = request.fields();
             assert_eq!(rt; fields.len(), 3);
             assert_eq!(rt; fields[1].name.as_slice(), b"Content-Length".as_slice());
             assert_eq!(rt; fields[1].value.as_slice(), b"5".as_slice());

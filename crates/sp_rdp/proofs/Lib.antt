@@ -1,0 +1,5 @@
+pub mod Escapes
+pub mod KindsRead
+pub mod PostHeads
+pub mod PostReads
+pub mod Seen

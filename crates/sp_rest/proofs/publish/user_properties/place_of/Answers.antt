@@ -1,0 +1,10 @@
+use Rattle.std.proofs.Common.{arith}
+use Rattle.std.specs.Prelude.{not}
+use Rattle.std.proofs.lemmas.Bool.Decides.{nat_tests}
+use Rattle.std.proofs.lemmas.List.Sums.{prefix_len-le-length}
+use Rattle.sp_message.specs.Property.{comes_before}
+use Rattle.sp_rest.proofs.publish.user_properties.place_of.Goals as goal
+
+pub returns-in-None-clause-value : goal.returns-in-None-clause-value
+returns-in-None-clause-value c =
+    grind (arith, nat_tests, prefix_len-le-length (λ q. not (comes_before c.args.property.now q)) c.args.rows.now, c.in-None.ensures)
