@@ -3,7 +3,7 @@
 
 # Lists the targets.
 help:
-	@echo "make first     proves and builds spoolrun, and runs the first tape (a quarter of an hour the first time, then seconds)"
+	@echo "make first     proves and builds spoolrun, and runs the first tape (the better part of an hour the first time, then seconds)"
 	@echo "make examples  builds spoolrun if need be, runs the examples and what the documents show, and compares"
 	@echo "make tapes     makes examples/X.tape of each examples/X.requests"
 	@echo "make test      the gate: proves everything, tries planted bugs, runs tests, programs and examples"
@@ -11,7 +11,7 @@ help:
 
 # Proves and builds spoolrun, and runs the first tape in a fresh folder.
 first:
-	@echo "proving and building spoolrun: the first time this may take a quarter of an hour, after that seconds" >&2
+	@echo "proving and building spoolrun: the first time this may take the better part of an hour, after that seconds" >&2
 	@tools/build.sh spoolrun
 	@top=$$(pwd) && folder=$$(mktemp -d) && cd $$folder && $$top/crates/spoolrun/out/spoolrun run < $$top/examples/first.tape
 
