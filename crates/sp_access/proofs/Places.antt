@@ -52,3 +52,11 @@ module _ (number : ℕ) (q : FlowView → Bool) where
       let less = later f fs rise place d (omega (arith, lt)) in
       one_found fs place d (later_rise f fs rise) (omega (arith, lt)) is
       ∙ (λ i. cond (sym (other_test f.number number (λ same. omega (arith, less, is, same))) i && q f) (Some f) (passing fs))
+
+-- where every flow passes, it is the flow of the number
+pub by_number : (number : ℕ) (fs : List FlowView) → passing number (λ f. true) fs ≡ find (λ f. f.number == number) fs
+by_number number fs i = find (λ f. plain (f.number == number) i) fs
+  where
+    plain : (b : Bool) → (b && true) ≡ b
+    plain true = refl
+    plain false = refl

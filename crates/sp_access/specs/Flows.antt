@@ -13,6 +13,10 @@ pub record FlowsView : Type 0 where
 abbrev pub flow_of : List FlowView → List ℕ → ℕ → Option FlowView
 flow_of flows caller flow = find (λ f. (f.number == flow) && bytes_eq f.caller caller) flows
 
+-- the flow of a number, where it is bound
+abbrev pub flow_numbered : List FlowView → ℕ → Option FlowView
+flow_numbered flows flow = find (λ f. f.number == flow) flows
+
 -- whether the flow of a number is bound
 abbrev pub is_bound : List FlowView → ℕ → Bool
 is_bound flows flow = list_any (λ f. f.number == flow) flows

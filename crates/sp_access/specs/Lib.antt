@@ -1,3 +1,4 @@
+pub mod Activity
 pub mod Flow
 pub mod Flows
 pub mod Inside

@@ -1,6 +1,6 @@
 ghost use Rattle.std.specs.Prelude.{◌≡◌, ◌≤◌, ◌<◌, ◌+◌, ◌^◌, ◌++◌, ◌∷◌, [], Some, None, true, bytes_eq, if◌then◌else◌, length, IfOk, OnOk, OnErr};
 ghost use Rattle.std.specs.Option.{option_copied};
-ghost use Rattle.sp_access.specs.Flows.{flow_count, flow_of, is_bound, without_flow};
+ghost use Rattle.sp_access.specs.Flows.{flow_count, flow_numbered, flow_of, is_bound, without_flow};
 ghost use Rattle.sp_base.specs.Name.{is_caller};
 ghost use Rattle.sp_base.specs.Rows.{IsPlace};
 
@@ -65,11 +65,13 @@ impl Flows {
         self.next
     }
 
-    /// Makes room, so that the next `bind` takes no memory. The flows stay as they were.
+    /// Makes room, so that the next `bind` takes no memory; where the room is there, it takes none
+    /// itself. The flows stay as they were.
     pub fn reserve(&mut self) -> Result<(), Memory>
         ensures flows { self.new.flows ≡ self.old.flows }
         ensures next { self.new.next ≡ self.old.next }
         ensures room { OnOk result (0 < self.new.room) }
+        ensures memory { OnErr result (self.old.room ≡ 0) }
         ensures kept { self.old.room ≤ self.new.room }
     {
         match self.rows.reserve(1) {
@@ -78,11 +80,13 @@ impl Flows {
         }
     }
 
-    /// Makes room, so that the next `more` binds take no memory. The flows stay as they were.
+    /// Makes room, so that the next `more` binds take no memory; where the room is there, it takes
+    /// none itself. The flows stay as they were.
     pub fn reserve_more(&mut self, more: usize) -> Result<(), AllocError>
         ensures flows { self.new.flows ≡ self.old.flows }
         ensures next { self.new.next ≡ self.old.next }
         ensures room { OnOk result (more ≤ self.new.room) }
+        ensures memory { OnErr result (self.old.room < more) }
         ensures kept { self.old.room ≤ self.new.room }
     {
         self.rows.reserve(more)
@@ -106,9 +110,7 @@ impl Flows {
         ensures unspent { OnErr result (self.new.next ≡ self.old.next) }
         ensures room { self.old.room ≤ self.new.room + 1 }
     {
-        if self.rows.room() == 0 {
-            self.reserve()?;
-        }
+        self.reserve()?;
         Ok(self.add(e, caller, selector))
     }
 
@@ -161,6 +163,16 @@ impl Flows {
             .iter()
             .filter(|f| f.endpoint == endpoint)
             .count()
+    }
+
+    /// The flow of a number.
+    pub fn find_number(&self, number: FlowNo) -> Option<&Flow>
+        ensures { option_copied result ≡ flow_numbered self.now.flows number }
+    {
+        match self.place(number) {
+            Some(place) => Some(&self.rows.as_slice()[place]),
+            None => None,
+        }
     }
 
     /// The place of the flow of a number.

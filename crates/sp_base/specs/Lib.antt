@@ -2,6 +2,7 @@ pub mod Causes
 pub mod Choice
 pub mod Declined
 pub mod Name
+pub mod Parts
 pub mod Refusal
 pub mod Rows
 pub mod RowsLent

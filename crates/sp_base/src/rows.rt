@@ -1,4 +1,4 @@
-ghost use Rattle.std.specs.Prelude.{◌≡◌, ◌≤◌, ◌<◌, ◌+◌, ◌++◌, ◌∷◌, [], ℕ, length, slice_set, OnOk};
+ghost use Rattle.std.specs.Prelude.{◌≡◌, ◌≤◌, ◌<◌, ◌+◌, ◌++◌, ◌∷◌, [], ℕ, length, slice_set, OnOk, OnErr};
 ghost use Rattle.std.specs.Fn.{CalledAt, ComputesKey};
 ghost use Rattle.std.specs.List.Retain.{IsFiltered};
 ghost use Rattle.sp_base.specs.Rows.{IsPlace};
@@ -57,12 +57,17 @@ impl<T> Rows<T> {
         self.rows.capacity() - self.rows.len()
     }
 
-    /// Makes room for `more` rows. Without memory the rows stay as they were.
+    /// Makes room for `more` rows; where the room is there, it takes no memory. Without memory the
+    /// rows stay as they were.
     pub fn reserve(&mut self, more: usize) -> Result<(), AllocError>
         ensures items { self.new.items ≡ self.old.items }
         ensures room { OnOk result (more ≤ self.new.room) }
+        ensures memory { OnErr result (self.old.room < more) }
         ensures kept { self.old.room ≤ self.new.room }
     {
+        if more <= self.room() {
+            return Ok(());
+        }
         self.rows.reserve(more)
     }
 

@@ -1,9 +1,9 @@
 -- The values that an endpoint's attributes have.
-use Rattle.std.specs.Prelude.{◌≡◌, ◌*◌, ℕ, Bool, true, false, List, Option, Some, codes}
+use Rattle.std.specs.Prelude.{◌≡◌, ◌*◌, ◌&&◌, ℕ, Bool, true, false, not, nat_lt, List, Option, Some, codes}
 use Rattle.sp_base.specs.declared.refusal.Permission.{Permission}
 use Rattle.sp_base.specs.declared.refusal.Permission.TheVariants.{NoAccess}
 use Rattle.sp_config.specs.declared.access_type.AccessType.{AccessType}
-use Rattle.sp_config.specs.declared.access_type.AccessType.TheVariants.{NonExclusive}
+use Rattle.sp_config.specs.declared.access_type.AccessType.TheVariants.{Exclusive, NonExclusive}
 use Rattle.sp_config.specs.declared.attr.Attr.TheVariants as attr
 use Rattle.sp_config.specs.declared.discard.DiscardBehavior.{DiscardBehavior}
 use Rattle.sp_config.specs.declared.discard.DiscardBehavior.TheVariants.{Always}
@@ -57,6 +57,15 @@ pub record AreInRange (a : AttributesView) : Type 0 where
   pub max_redelivery_count : is_in_range attr.MaxRedeliveryCount (Whole a.max_redelivery_count) ≡ true
   pub max_ttl : is_in_range attr.MaxTtl (Whole a.max_ttl) ≡ true
   pub partition_count : is_in_range attr.PartitionCount (Whole a.partition_count) ≡ true
+
+-- whether one flow at a time is handed out copies
+abbrev pub is_exclusive : AccessType → Bool
+is_exclusive Exclusive = true
+is_exclusive NonExclusive = false
+
+-- whether copies are spread over partitions, of which each is handed out to one flow at a time
+abbrev pub is_partitioned : AttributesView → Bool
+is_partitioned a = not (is_exclusive a.access_type) && nat_lt 0 a.partition_count
 
 -- the quota in bytes, of which the attribute has units of 1,048,576
 abbrev pub quota_of : AttributesView → ℕ

@@ -1,3 +1,6 @@
+ghost use Rattle.std.specs.Prelude.{◌≡◌};
+ghost use Rattle.sp_config.specs.Attributes.{is_exclusive};
+
 use sp_base::choice::Choice;
 
 /// Which flows of an endpoint are handed out copies.
@@ -7,6 +10,18 @@ pub enum AccessType {
     Exclusive,
     /// All flows.
     NonExclusive,
+}
+
+impl AccessType {
+    /// Whether one flow at a time is handed out copies.
+    pub fn is_exclusive(self) -> bool
+        ensures { result ≡ is_exclusive self }
+    {
+        match self {
+            AccessType::Exclusive => true,
+            AccessType::NonExclusive => false,
+        }
+    }
 }
 
 impl Choice for AccessType {

@@ -1,13 +1,13 @@
 -- Plans of several changes.
 use Rattle.sp_access.specs.Flow.{FlowView}
 use Rattle.sp_access.specs.Flows.{flow_count, flow_of}
-use Rattle.sp_base.specs.declared.refusal.Refusal.TheVariants.{BadSubscription, IdsSpent, InUse, UnknownEndpoint, UnknownFlow}
+use Rattle.sp_base.specs.declared.refusal.Refusal.TheVariants.{BadSubscription, BindLimit, InUse, UnknownEndpoint, UnknownFlow}
 use Rattle.sp_copies.specs.Counts.{spooled_count}
-use Rattle.sp_endpoint.specs.Endpoints.{named}
+use Rattle.sp_endpoint.specs.Endpoints.{named, numbered}
 use Rattle.sp_base.specs.declared.refusal.Kind.TheVariants as kinds
 use Rattle.sp_base.specs.declared.refusal.Refusal.{Refusal}
 use Rattle.sp_copies.specs.declared.made.MadeCopy.{MadeCopy}
-use Rattle.sp_core.proofs.Deciding.{is_planned, is_refused, on_one}
+use Rattle.sp_core.proofs.Deciding.{is_planned, is_refused, on_none, on_one}
 use Rattle.sp_core.proofs.Spread.{first_of_two}
 use Rattle.sp_core.specs.Decided.{bind_plan, verdict}
 use Rattle.sp_plan.specs.Plan.{PlanState}
@@ -16,11 +16,11 @@ use Rattle.sp_event.specs.declared.answer.Reply.TheVariants as replies
 use Rattle.sp_ledger.proofs.Decided.{passes, passes-append}
 use Rattle.sp_ledger.specs.Changes.{Change, holds}
 use Rattle.sp_ledger.specs.Ledger.{Ledger}
-use Rattle.sp_ledger.specs.OnFlows.{bind, deliveries, fits_kind, is_rebound, pull, pulled, rebound, topic_changes, topic_check}
+use Rattle.sp_ledger.specs.OnFlows.{bind, deliveries, fits_kind, is_rebound, pull, pulled, rebound, rebind_changes, topic_check}
 use Rattle.sp_ledger.specs.Step.{Check, Step, begun, does, first_refusal, is_copy_spent, is_spent, is_unit, on_found, rule, unit_check, unless}
 use Rattle.std.proofs.Common.{ap, arith, refl, sym, ◌∙◌}
 use Rattle.std.proofs.lemmas.Bool.{ltb-false}
-use Rattle.std.specs.Prelude.{Bool, Err, List, None, Ok, Option, Some, [], cond, false, map, not, true, ℕ, ◌&&◌, ◌^◌, ◌++◌, ◌+◌, ◌==◌, ◌∷◌, ◌≡◌, ◌≤◌}
+use Rattle.std.specs.Prelude.{Bool, Err, List, None, Ok, Option, Some, [], cond, false, map, nat_le, not, true, ℕ, ◌&&◌, ◌^◌, ◌++◌, ◌+◌, ◌==◌, ◌∷◌, ◌≡◌, ◌≤◌}
 
 -- one function after another
 pub map_twice : {X Y Z : Type 0} (f : Y → Z) (g : X → Y) (xs : List X) → map (λ x. f (g x)) xs ≡ map f (map g xs)
@@ -61,6 +61,8 @@ bind_checks L topic e bound =
     rule (not (fits_kind e.kind topic)) (BadSubscription 0)
     ∷ rule (is_rebound e bound && not (flow_count L.flows e.number == 0))
     (InUse (flow_count L.flows e.number) (spooled_count L.copies (Some e.number)))
+    ∷ rule (nat_le e.attributes.max_bind_count (flow_count L.flows e.number))
+    (BindLimit (flow_count L.flows e.number) e.attributes.max_bind_count)
     ∷ is_spent L.next.flow kinds.Flow
     ∷ []
 
@@ -84,7 +86,7 @@ bind_unit : (L : Ledger) (caller : List ℕ) (selector topic : Option (List ℕ)
     first_refusal (bind_checks L topic e bound ++ unit_check L (bind_plan caller e bound selector L).changes ∷ [])
     ≡ first_refusal (bind_checks L topic e bound ++ is_spent L.next.unit kinds.Unit ∷ [])
 bind_unit L caller selector topic e bound =
-    unit_is L (bind_plan caller e bound selector L).changes (bind_checks L topic e bound) (last_unit (topic_changes L e bound) _)
+    unit_is L (bind_plan caller e bound selector L).changes (bind_checks L topic e bound) (last_unit (rebind_changes L e bound) _)
 
 -- a bind that is refused by a rule on the endpoint or on numbers
 pub bind_refused : (L : Ledger) (caller name : List ℕ) (selector topic : Option (List ℕ)) (e bound : EndpointView) (r : Refusal) →
@@ -106,17 +108,56 @@ bind_planned L caller name selector topic e bound plan plain found is none plann
     ∙ (is_planned L (bind_checks L topic e bound) _ _ (none ∙ sym (bind_unit L caller selector topic e bound))
     ∙ ap (λ (p : PlanState). Ok p) (sym planned))
 
--- a pull that isn't refused
-pub pull_planned : (L : Ledger) (moment : ℕ) (caller : List ℕ) (flow count : ℕ) (f : FlowView) (copies : List MadeCopy) (plan : PlanState) →
-    Some f ≡ flow_of L.flows caller flow → copies ≡ pulled (begun moment L) f count →
-    None ≡ first_refusal (unit_check L (map (λ c. holds c.number flow) copies) ∷ []) →
-    plan ≡ record { changes = map (λ c. holds c.number flow) copies; reply = replies.Pull flow (deliveries L copies) } →
-    verdict L (pull caller flow count (begun moment L)) ≡ Ok plan
-pull_planned L moment caller flow count f copies plan found chosen none is =
-    on_one L (flow_of L.flows caller flow) f (UnknownFlow flow) (λ g. on_flow (pulled (begun moment L) g count)) found
-    ∙ (ap (λ (cs : List MadeCopy). verdict L (on_flow cs)) (sym chosen)
-    ∙ (is_planned L [] (map (λ (c : MadeCopy). holds c.number flow) copies) (replies.Pull flow (deliveries (begun moment L) copies)) none
-    ∙ ap (λ (p : PlanState). Ok p) (sym is)))
+-- a pull of a flow whose endpoint is there
+module _ (L : Ledger) (moment : ℕ) (caller : List ℕ) (flow count : ℕ) (f : FlowView) (e : EndpointView)
+    (found : Some f ≡ flow_of L.flows caller flow) (there : Some e ≡ numbered f.endpoint L.endpoints) where
+  abbrev on_copies : List MadeCopy → Step
+  on_copies cs = does [] (map (λ (c : MadeCopy). holds c.number flow) cs) (replies.Pull flow (deliveries (begun moment L) cs))
+
+  abbrev on_endpoint : FlowView → Step
+  on_endpoint g =
+      on_found (numbered g.endpoint L.endpoints) (UnknownFlow flow)
+      (λ d. on_copies (pulled (begun moment L) d flow count))
+
+  pull_is : verdict L (pull caller flow count (begun moment L)) ≡ verdict L (on_copies (pulled (begun moment L) e flow count))
+  pull_is =
+      on_one L (flow_of L.flows caller flow) f (UnknownFlow flow) on_endpoint found
+      ∙ on_one L (numbered f.endpoint L.endpoints) e (UnknownFlow flow)
+      (λ (d : EndpointView). on_copies (pulled (begun moment L) d flow count)) there
+
+  -- that isn't refused
+  pub pull_planned : (copies : List MadeCopy) (plan : PlanState) → copies ≡ pulled (begun moment L) e flow count →
+      None ≡ first_refusal (unit_check L (map (λ c. holds c.number flow) copies) ∷ []) →
+      plan ≡ record { changes = map (λ c. holds c.number flow) copies; reply = replies.Pull flow (deliveries L copies) } →
+      verdict L (pull caller flow count (begun moment L)) ≡ Ok plan
+  pull_planned copies plan chosen none is =
+      pull_is
+      ∙ (ap (λ (cs : List MadeCopy). verdict L (on_copies cs)) (sym chosen)
+      ∙ (is_planned L [] (map (λ (c : MadeCopy). holds c.number flow) copies) (replies.Pull flow (deliveries (begun moment L) copies)) none
+      ∙ ap (λ (p : PlanState). Ok p) (sym is)))
+
+  -- that is refused
+  pub pull_refused : (copies : List MadeCopy) (r : Refusal) → copies ≡ pulled (begun moment L) e flow count →
+      Some r ≡ first_refusal (unit_check L (map (λ c. holds c.number flow) copies) ∷ []) →
+      verdict L (pull caller flow count (begun moment L)) ≡ Err r
+  pull_refused copies r chosen some =
+      pull_is
+      ∙ (ap (λ (cs : List MadeCopy). verdict L (on_copies cs)) (sym chosen)
+      ∙ is_refused L [] (map (λ (c : MadeCopy). holds c.number flow) copies) (replies.Pull flow (deliveries (begun moment L) copies)) r some)
+
+-- one whose endpoint isn't
+pub pull_lost : (L : Ledger) (moment : ℕ) (caller : List ℕ) (flow count : ℕ) (f : FlowView) →
+    Some f ≡ flow_of L.flows caller flow → None ≡ numbered f.endpoint L.endpoints →
+    verdict L (pull caller flow count (begun moment L)) ≡ Err (UnknownFlow flow)
+pull_lost L moment caller flow count f found none =
+    on_one L (flow_of L.flows caller flow) f (UnknownFlow flow) on_endpoint found
+    ∙ on_none L (numbered f.endpoint L.endpoints) (UnknownFlow flow)
+    (λ (e : EndpointView). on_copies (pulled (begun moment L) e flow count)) none
   where
-    on_flow : List MadeCopy → Step
-    on_flow cs = does [] (map (λ (c : MadeCopy). holds c.number flow) cs) (replies.Pull flow (deliveries (begun moment L) cs))
+    on_copies : List MadeCopy → Step
+    on_copies cs = does [] (map (λ (c : MadeCopy). holds c.number flow) cs) (replies.Pull flow (deliveries (begun moment L) cs))
+
+    on_endpoint : FlowView → Step
+    on_endpoint g =
+        on_found (numbered g.endpoint L.endpoints) (UnknownFlow flow)
+        (λ d. on_copies (pulled (begun moment L) d flow count))

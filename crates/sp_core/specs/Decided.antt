@@ -17,12 +17,11 @@ use Rattle.sp_ledger.specs.Changes.{Change, all_changed, binds, publishes}
 use Rattle.sp_ledger.specs.Events.{outcome}
 use Rattle.sp_ledger.specs.Ledger.{Ledger}
 use Rattle.sp_ledger.specs.Limits.{spent}
-use Rattle.sp_ledger.specs.OnFlows.{new_flow, outdated, topic_changes}
+use Rattle.sp_ledger.specs.OnFlows.{new_flow, outdated, rebind_changes}
 use Rattle.sp_ledger.specs.Publish.{share_for, told_copies}
 use Rattle.sp_ledger.specs.Step.{Outcome, Step, accepted, begun, carried_out, does, first_refusal}
 use Rattle.sp_ledger.specs.Step.{idle, is_unit, lacks, refused, unit_check}
 use Rattle.sp_plan.specs.Plan.{PlanState}
-use Rattle.sp_message.specs.Size.{size_of}
 use Rattle.sp_message.specs.declared.message.Message.{Message}
 
 -- a plan, where no rule is broken
@@ -39,13 +38,13 @@ verdict L (does checks changes reply) =
 -- the plans of a bind and of a publish that aren't refused
 abbrev pub bind_plan : List ℕ → EndpointView → EndpointView → Option (List ℕ) → Ledger → PlanState
 bind_plan caller e bound selector L = record {
-  changes = topic_changes L e bound ++ binds (new_flow L.next.flow caller e selector) ∷ [];
+  changes = rebind_changes L e bound ++ binds (new_flow L.next.flow caller e selector) ∷ [];
   reply = replies.Bind e.name L.next.flow (length (outdated L e bound));
 }
 
 abbrev pub publish_plan : Message → List EndpointView → Ledger → PlanState
 publish_plan m into L = record {
-  changes = publishes m (map (share_for L.next.message (size_of m)) into) ∷ [];
+  changes = publishes m (map (share_for m L.next.message) into) ∷ [];
   reply = replies.Publish L.next.message (told_copies L.copies.next into);
 }
 

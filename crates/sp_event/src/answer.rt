@@ -42,6 +42,17 @@ pub struct CopyDetails {
     pub attempts: u64,
 }
 
+/// A flow that is bound to an endpoint.
+#[derive(Debug, Drop)]
+pub struct BoundFlow {
+    pub flow: FlowNo,
+    pub caller: Name,
+    /// How many copies it holds.
+    pub held: u64,
+    /// Whether it is handed out copies now: on an exclusive endpoint the first alone is.
+    pub active: bool,
+}
+
 /// How many copies were made, and how many of them have which fate.
 #[derive(Debug, Drop)]
 pub struct Tally {
@@ -107,6 +118,11 @@ pub enum Reply {
         copy: CopyNo,
         fate: Fate,
         details: Option<CopyDetails>,
+    },
+    /// The flows stand in the order in which they were bound.
+    Flows {
+        endpoint: Name,
+        flows: Items<BoundFlow>,
     },
 }
 

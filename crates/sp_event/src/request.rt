@@ -86,6 +86,8 @@ pub enum Query {
     Tally { endpoint: Option<Name> },
     /// What has become of a copy.
     Copy { copy: CopyNo },
+    /// Which flows are bound to an endpoint.
+    Flows { endpoint: Name },
 }
 
 /// A request: to do something, or to look.

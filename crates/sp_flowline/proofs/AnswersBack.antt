@@ -12,6 +12,7 @@ use Rattle.sp_copies.specs.declared.closed.Fate.{Fate}
 use Rattle.sp_copies.specs.declared.closed.Fate.TheVariants.{Never, Spooled, Accepted, Moved, Discarded, Earlier}
 use Rattle.sp_event.specs.declared.answer.Answered.{Answered}
 use Rattle.sp_event.specs.declared.answer.Answered.TheVariants.{Gave, Refused, Memory, Disk, Full}
+use Rattle.sp_event.specs.declared.answer.BoundFlow.{BoundFlow}
 use Rattle.sp_event.specs.declared.answer.CopyDetails.{CopyDetails}
 use Rattle.sp_event.specs.declared.answer.CopyFate.{CopyFate}
 use Rattle.sp_event.specs.declared.answer.Delivery.{Delivery}
@@ -22,17 +23,19 @@ use Rattle.sp_event.specs.declared.answer.Tally.{Tally}
 use Rattle.sp_message.specs.declared.message.Dest.{Dest}
 use Rattle.sp_message.specs.declared.message.Dest.TheVariants.{Topic, Queue}
 use Rattle.sp_json.specs.Deliveries.{with_destination, delivery_data}
+use Rattle.sp_json.specs.Flows.{flow_data}
 use Rattle.sp_json.specs.Members.{whole}
 use Rattle.sp_json.specs.Payloads.{AreBytes, base64_of, from_base64}
 use Rattle.sp_json.specs.Told.{told_data, fate_data}
-use Rattle.sp_json.specs.Properties.{AreProperties, properties_from, properties_members}
+use Rattle.sp_json.specs.Properties.{properties_from, properties_members}
+use Rattle.sp_message.specs.Property.{are_properties}
 use Rattle.sp_message.specs.declared.property.Property.{Property}
 use Rattle.sp_json.proofs.PayloadLemmas.{base64_back}
 use Rattle.sp_json.proofs.PropertiesBack.{properties_back}
 use Rattle.sp_flowline.specs.Answers.{answer_data}
 use Rattle.sp_flowline.specs.Distinct.{IsTellable, without_index, LinesTellAnswers}
 use Rattle.sp_flowline.proofs.CopiesBack.{each_back, every_back, cause_back, fate_of, published_of, published_back, ended_of, ended_back, counts_of, counts_back}
-use Rattle.sp_flowline.proofs.MembersBack.{has, num, text, fields, inner, many}
+use Rattle.sp_flowline.proofs.MembersBack.{has, truth, num, text, fields, inner, many}
 use Rattle.sp_flowline.proofs.RefusalsBack.{refusal_of, refusal_back}
 use Rattle.sp_flowline.proofs.TextBack.{one_data}
 
@@ -71,7 +74,7 @@ abbrev shown : Bool → List ℕ → Members → Members
 shown is_text bytes ms =
     if is_text then put (codes "payload") (string bytes) ms else put (codes "payload64") (string (base64_of bytes)) ms
 
-by_form : (attempt copy message : ℕ) (dest : Dest) (payload : List ℕ) (ps : List Property) (is_text : Bool) → AreBytes payload → AreProperties ps
+by_form : (attempt copy message : ℕ) (dest : Dest) (payload : List ℕ) (ps : List Property) (is_text : Bool) → AreBytes payload → are_properties ps ≡ true
     → delivered (shown is_text payload (with_destination dest (base attempt copy message ps))) ≡ delivery attempt copy message dest payload ps
 by_form attempt copy message (Topic topic) payload ps true h k =
     ap (λ (o : Option (List Property)). delivery attempt copy message (Topic topic) payload (unwrap_or o [])) (properties_back ps k)
@@ -82,8 +85,21 @@ by_form attempt copy message (Topic topic) payload ps false h k =
 by_form attempt copy message (Queue name) payload ps false h k =
     ap₂ (λ (o : Option (List ℕ)) (q : Option (List Property)). delivery attempt copy message (Queue name) (unwrap_or o []) (unwrap_or q [])) (base64_back payload h) (properties_back ps k)
 
-delivery_back : (d : Delivery) → AreBytes d.payload × AreProperties d.properties → delivery_of (delivery_data d) ≡ d
+delivery_back : (d : Delivery) → AreBytes d.payload × (are_properties d.properties ≡ true) → delivery_of (delivery_data d) ≡ d
 delivery_back d h = by_form d.attempt d.copy d.message d.dest d.payload d.properties (is_utf8 d.payload) h.0 h.1
+
+-- ---- flows that are bound
+
+abbrev bound_of : Data → BoundFlow
+bound_of d = record {
+  flow = num (codes "flow") (fields d);
+  caller = text (codes "caller") (fields d);
+  held = num (codes "held") (fields d);
+  active = truth (codes "active") (fields d);
+}
+
+bound_back : (f : BoundFlow) → bound_of (flow_data f) ≡ f
+bound_back f = refl
 
 -- ---- replies
 
@@ -111,7 +127,8 @@ flow_reply word ms =
     (if bytes_eq word (codes "pull") then replies.Pull (num (codes "flow") ms) (map delivery_of (many (codes "deliveries") ms)) else
     (if bytes_eq word (codes "settle") then replies.Settle (num (codes "copy") ms) (fate_of ms) else
     (if bytes_eq word (codes "tally") then replies.Tally (tally_of ms) else
-    replies.Copy (num (codes "copy") ms) (fate_of ms) (details_of ms)))))
+    (if bytes_eq word (codes "flows") then replies.Flows (text (codes "endpoint") ms) (map bound_of (many (codes "flows") ms)) else
+    replies.Copy (num (codes "copy") ms) (fate_of ms) (details_of ms))))))
 
 abbrev reply_of : List ℕ → Members → Reply
 reply_of word ms =
@@ -168,11 +185,13 @@ answer_back (Gave (replies.Bind endpoint flow discarded)) unit h = refl
 answer_back (Gave (replies.Unbind flow closed returned)) unit h =
     ap (λ (cs : List CopyFate). Gave (replies.Unbind flow cs returned)) (every_back fate_data ended_of ended_back closed)
 answer_back (Gave (replies.Pull flow deliveries)) unit h =
-    ap (λ (ds : List Delivery). Gave (replies.Pull flow ds)) (each_back delivery_data delivery_of (λ d. AreBytes d.payload × AreProperties d.properties) delivery_back deliveries h)
+    ap (λ (ds : List Delivery). Gave (replies.Pull flow ds)) (each_back delivery_data delivery_of (λ d. AreBytes d.payload × (are_properties d.properties ≡ true)) delivery_back deliveries h)
 answer_back (Gave (replies.Settle copy fate)) unit h = settled copy fate unit
 answer_back (Gave (replies.Tally t)) unit h =
     ap (λ (cs : List CauseCount). Gave (replies.Tally (tally t.accepted cs t.discarded t.made t.moved t.spooled t.used))) (counts_back t.causes h)
 answer_back (Gave (replies.Copy copy fate told)) unit h = copied copy fate told unit
+answer_back (Gave (replies.Flows endpoint flows)) unit h =
+    ap (λ (fs : List BoundFlow). Gave (replies.Flows endpoint fs)) (every_back flow_data bound_of bound_back flows)
 answer_back (Refused refusal index) unit h = ap (λ (r : Refusal). Refused r None) (refusal_back refusal)
 answer_back Memory unit h = refl
 answer_back Disk unit h = refl

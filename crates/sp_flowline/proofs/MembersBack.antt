@@ -1,11 +1,14 @@
--- What stands in members, as a number, a text, members or a list.
-use Rattle.std.specs.Prelude.{ℕ, Bool, List, [], ◌∷◌, is_some}
+-- What stands in members, as a truth value, a number, a text, members or a list.
+use Rattle.std.specs.Prelude.{ℕ, Bool, false, List, [], ◌∷◌, is_some}
 use Rattle.std.specs.Option.{option_and_then, unwrap_or}
 use Rattle.serde_json.specs.Data.{Data, Items, no_items, item, Members, no_members}
-use Rattle.serde_json.specs.Find.{get_member, as_str, as_number, as_u64, as_object, as_array}
+use Rattle.serde_json.specs.Find.{get_member, as_bool, as_str, as_number, as_u64, as_object, as_array}
 
 abbrev pub has : List ℕ → Members → Bool
 has key ms = is_some (get_member key ms)
+
+abbrev pub truth : List ℕ → Members → Bool
+truth key ms = unwrap_or (option_and_then as_bool (get_member key ms)) false
 
 abbrev pub num : List ℕ → Members → ℕ
 num key ms = unwrap_or (option_and_then as_u64 (option_and_then as_number (get_member key ms))) 0

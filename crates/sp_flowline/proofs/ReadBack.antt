@@ -24,9 +24,11 @@ use Rattle.sp_event.specs.declared.request.Query.TheVariants as queries
 use Rattle.sp_topic.specs.Subscription.{IsSubscription, is_exception}
 use Rattle.sp_json.specs.Deliveries.{with_destination}
 use Rattle.sp_json.specs.Fields.{within, name_from}
-use Rattle.sp_json.specs.Parts.{formed, unless, and_then}
+use Rattle.sp_base.specs.Parts.{formed, unless, and_then}
 use Rattle.sp_json.specs.Payloads.{AreBytes, base64_of, from_base64, payload_from}
-use Rattle.sp_json.specs.Properties.{AreProperties, properties_from, properties_members}
+use Rattle.sp_json.specs.Properties.{properties_from, properties_members}
+use Rattle.sp_message.specs.Destination.{topic_from}
+use Rattle.sp_message.specs.Property.{are_properties}
 use Rattle.sp_json.specs.Selectors.{selector_of}
 use Rattle.sp_json.specs.Subscriptions.{subscription_from}
 use Rattle.sp_message.specs.declared.property.Property.{Property}
@@ -34,7 +36,7 @@ use Rattle.sp_selector.specs.Takes.{selector_fault}
 use Rattle.sp_flowline.specs.declared.mode.Mode.TheVariants.{Persistent}
 use Rattle.sp_flowline.specs.Asks.{done, looked}
 use Rattle.sp_flowline.specs.FlowEvents.{plain_of}
-use Rattle.sp_flowline.specs.Publishes.{message_to, sent, topic_from}
+use Rattle.sp_flowline.specs.Publishes.{message_to, sent}
 use Rattle.sp_flowline.specs.Request.{reading_of}
 use Rattle.sp_flowline.specs.Written.{event_data, of_op, with_properties, MayHave, IsSendable, EventCanBeWritten, RequestsReadBack}
 use Rattle.sp_json.proofs.PayloadLemmas.{base64_back}
@@ -107,13 +109,13 @@ bind endpoint (Some text) (Some topic) h =
     bound (name_from endpoint) endpoint (selector_read text) (topic_read topic) (Some text) (Some topic) (name_back endpoint h.0) (selector_read_back text h.1) (topic_read_back topic h.2)
 
 -- a publish, whose payload and properties the fields give
-to_topic : (topic payload : List ℕ) (ps : List Property) (given : Option (List ℕ)) → IsTopic topic → given ≡ Some payload → AreProperties ps
+to_topic : (topic payload : List ℕ) (ps : List Property) (given : Option (List ℕ)) → IsTopic topic → given ≡ Some payload → are_properties ps ≡ true
     → done (and_then (formed given) (λ (p : List ℕ). and_then (formed (properties_from (object (properties_members ps)))) (λ (qs : List Property). sent Persistent (topic_from topic) p qs))) ≡ Ok (Do (events.Publish (message_to (Topic topic) payload ps)))
 to_topic topic payload ps given s g k =
     ap (λ (found : Option (List Property)). done (and_then (formed given) (λ (p : List ℕ). and_then (formed found) (λ (qs : List Property). sent Persistent (topic_from topic) p qs)))) (properties_back ps k)
     ∙ ap₂ (λ (dest : Result Dest Refusal) (given : Option (List ℕ)). done (and_then (formed given) (λ (p : List ℕ). sent Persistent dest p ps))) (topic_back topic s) g
 
-to_queue : (name payload : List ℕ) (ps : List Property) (given : Option (List ℕ)) → is_name name ≡ true → given ≡ Some payload → AreProperties ps
+to_queue : (name payload : List ℕ) (ps : List Property) (given : Option (List ℕ)) → is_name name ≡ true → given ≡ Some payload → are_properties ps ≡ true
     → done (and_then (formed (option_map (λ (queue : List ℕ). Ok (Queue queue)) (name_from name))) (λ dest. and_then (formed given) (λ (p : List ℕ). and_then (formed (properties_from (object (properties_members ps)))) (λ (qs : List Property). sent Persistent dest p qs)))) ≡ Ok (Do (events.Publish (message_to (Queue name) payload ps)))
 to_queue name payload ps given s g k =
     ap (λ (found : Option (List Property)). done (and_then (formed (option_map (λ (queue : List ℕ). Ok (Queue queue)) (name_from name))) (λ dest. and_then (formed given) (λ (p : List ℕ). and_then (formed found) (λ (qs : List Property). sent Persistent dest p qs))))) (properties_back ps k)
@@ -122,7 +124,7 @@ to_queue name payload ps given s g k =
 payload64_back : (bytes : List ℕ) → AreBytes bytes → length bytes ≤ 8388608 → option_and_then payload_from (from_base64 (base64_of bytes)) ≡ Some bytes
 payload64_back bytes b l = ap (option_and_then payload_from) (base64_back bytes b) ∙ payload_back bytes l
 
-published : (dest : Dest) (payload : List ℕ) (ps : List Property) (text : Bool) → IsSendable dest → length payload ≤ 8388608 → AreBytes payload → AreProperties ps
+published : (dest : Dest) (payload : List ℕ) (ps : List Property) (text : Bool) → IsSendable dest → length payload ≤ 8388608 → AreBytes payload → are_properties ps ≡ true
     → reading_of (object (if text then put (codes "payload") (string payload) (with_destination dest (with_properties ps (of_op (codes "publish")))) else put (codes "payload64") (string (base64_of payload)) (with_destination dest (with_properties ps (of_op (codes "publish")))))) ≡ Ok (Do (events.Publish (message_to dest payload ps)))
 published (Topic topic) payload ps true s l b k = to_topic topic payload ps (payload_from payload) s (payload_back payload l) k
 published (Topic topic) payload ps false s l b k = to_topic topic payload ps (option_and_then payload_from (from_base64 (base64_of payload))) s (payload64_back payload b l) k
@@ -161,3 +163,5 @@ read_back (Look (queries.Tally (Some endpoint))) h =
     ap (λ (name : Option (List ℕ)). looked (formed (option_map queries.Tally (option_map Some name)))) (name_back endpoint h)
 read_back (Look (queries.Copy copy)) h =
     ap (λ (copy : Option ℕ). looked (formed (option_map queries.Copy copy))) (number_back copy h)
+read_back (Look (queries.Flows endpoint)) h =
+    ap (λ (name : Option (List ℕ)). looked (formed (option_map queries.Flows name))) (name_back endpoint h)

@@ -23,7 +23,7 @@ use Rattle.sp_config.specs.Ranges.{range_of, is_within, is_in_range}
 use Rattle.sp_config.specs.Settings.{is_allowed, number_of}
 use Rattle.sp_json.specs.Attributes.{value_of, allowed, setting_from, setting_named, bad_key, settings_of, settings_from}
 use Rattle.sp_json.specs.Fields.{name_from}
-use Rattle.sp_json.specs.Parts.{unless}
+use Rattle.sp_base.specs.Parts.{unless}
 use Rattle.sp_flowline.specs.Written.{word_at, value_data, settings_members, is_named, MayHave}
 use Rattle.sp_flowline.proofs.SettingsPicked.{both, was_same, by_name, one_number, picked, found, all_picked}
 

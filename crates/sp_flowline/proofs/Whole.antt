@@ -11,7 +11,7 @@ use Rattle.sp_event.specs.declared.answer.Answered.TheVariants.{Gave, Refused, M
 use Rattle.sp_json.specs.Members.{whole}
 use Rattle.sp_json.specs.Refusals.{shown_members}
 use Rattle.sp_json.specs.Told.{with_details}
-use Rattle.sp_json.proofs.Whole.{put_whole, fated, copies, closed, deliveries, causes, detailed, shown}
+use Rattle.sp_json.proofs.Whole.{put_whole, fated, copies, closed, deliveries, causes, detailed, shown, flows}
 use Rattle.sp_flowline.specs.Answers.{refusal_data, answer_data}
 use Rattle.sp_flowline.specs.Replies.{reply_data}
 
@@ -27,6 +27,7 @@ reply (replies.Unbind flow cs returned) unit = rw (closed cs)
 reply (replies.Pull flow ds) unit = rw (deliveries ds)
 reply (replies.Settle c fate) unit = fated fate (member (codes "copy") (whole c) (member (codes "ok") (string (codes "settle")) (member (codes "unit") (whole unit) no_members))) refl
 reply (replies.Tally t) unit = rw (causes t.causes no_members refl)
+reply (replies.Flows endpoint fs) unit = rw (flows fs)
 reply (replies.Copy c fate details) unit = fated fate (with_details details (asked c unit)) (detailed details (asked c unit) refl)
   where
     asked : ℕ → ℕ → Members

@@ -8,11 +8,11 @@ use Rattle.sp_event.specs.declared.request.Event.{Event}
 use Rattle.sp_event.specs.declared.request.Query.{Query}
 use Rattle.sp_event.specs.declared.request.Query.TheVariants as queries
 use Rattle.sp_flowline.specs.declared.op.Op.{Op}
-use Rattle.sp_flowline.specs.declared.op.Op.TheVariants.{Provision, Deprovision, Change, Subscribe, Unsubscribe, Publish, Bind, Unbind, Pull, Settle, Tally, Copy}
+use Rattle.sp_flowline.specs.declared.op.Op.TheVariants.{Provision, Deprovision, Change, Subscribe, Unsubscribe, Publish, Bind, Unbind, Pull, Settle, Tally, Copy, Flows}
 use Rattle.sp_flowline.specs.EndpointEvents.{provision_in, deprovision_in, change_in, subscribe_in, unsubscribe_in}
-use Rattle.sp_json.specs.Fields.{optional_name_at, ranged_at}
+use Rattle.sp_json.specs.Fields.{name_at, optional_name_at, ranged_at}
 use Rattle.sp_flowline.specs.FlowEvents.{bind_in, unbind_in, pull_in, settle_in}
-use Rattle.sp_json.specs.Parts.{formed, and_then}
+use Rattle.sp_base.specs.Parts.{formed, and_then}
 use Rattle.sp_flowline.specs.Publishes.{publish_in}
 
 -- an event or a query as what is asked
@@ -30,6 +30,10 @@ tally_in d = option_map queries.Tally (optional_name_at (codes "endpoint") d)
 abbrev pub copy_in : Data → Option Query
 copy_in d = option_map queries.Copy (ranged_at 0 (2 ^ 62) (codes "copy") d)
 
+-- the flows that are bound to an endpoint
+abbrev pub flows_in : Data → Option Query
+flows_in d = option_map queries.Flows (name_at (codes "endpoint") d)
+
 -- what the fields of an operation ask for
 abbrev pub ask_in : Op → Data → Result Ask Refusal
 ask_in Provision d = done (provision_in d)
@@ -44,3 +48,4 @@ ask_in Pull d = done (formed (pull_in d))
 ask_in Settle d = done (formed (settle_in d))
 ask_in Tally d = looked (formed (tally_in d))
 ask_in Copy d = looked (formed (copy_in d))
+ask_in Flows d = looked (formed (flows_in d))

@@ -8,7 +8,7 @@ use Rattle.sp_event.specs.declared.request.Event.{Event}
 use Rattle.sp_event.specs.declared.request.Event.TheVariants.{Provision, Deprovision, Change, Subscribe, Unsubscribe}
 use Rattle.sp_json.specs.Attributes.{settings_at, optional_settings_at}
 use Rattle.sp_json.specs.Fields.{choice_or, name_at}
-use Rattle.sp_json.specs.Parts.{formed, and_then}
+use Rattle.sp_base.specs.Parts.{formed, and_then}
 use Rattle.sp_json.specs.Subscriptions.{subscription_at}
 
 -- a new endpoint of a name and a kind: a queue, where none is named

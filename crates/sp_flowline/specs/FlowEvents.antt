@@ -9,7 +9,7 @@ use Rattle.sp_topic.specs.Subscription.{is_exception}
 use Rattle.sp_event.specs.declared.request.Outcome.{Outcome}
 use Rattle.sp_event.specs.declared.request.Outcome.TheVariants.{Accepted}
 use Rattle.sp_json.specs.Fields.{has_key, text_at, optional_text_at, name_at, ranged_at, ranged_or}
-use Rattle.sp_json.specs.Parts.{formed, and_then}
+use Rattle.sp_base.specs.Parts.{formed, and_then}
 use Rattle.sp_json.specs.Selectors.{selector_from}
 use Rattle.sp_json.specs.Subscriptions.{subscription_at}
 

@@ -2,10 +2,12 @@
 use Rattle.std.specs.Prelude.{ℕ, List, codes}
 use Rattle.serde_json.specs.Data.{Data, string, object, member, no_members}
 use Rattle.sp_copies.specs.declared.closed.Fate.{Fate}
+use Rattle.sp_event.specs.declared.answer.BoundFlow.{BoundFlow}
 use Rattle.sp_event.specs.declared.answer.CopyFate.{CopyFate}
 use Rattle.sp_event.specs.declared.answer.Delivery.{Delivery}
 use Rattle.sp_json.specs.Deliveries.{deliveries_data}
 use Rattle.sp_json.specs.Fates.{with_fate}
+use Rattle.sp_json.specs.Flows.{flows_data}
 use Rattle.sp_json.specs.Members.{whole}
 use Rattle.sp_json.specs.Told.{closed_data}
 
@@ -40,4 +42,12 @@ abbrev pub settle_data : ℕ → Fate → ℕ → Data
 settle_data copy fate unit = object (with_fate fate
     (member (codes "copy") (whole copy)
     (member (codes "ok") (string (codes "settle"))
+    (member (codes "unit") (whole unit) no_members))))
+
+-- the flows that are bound to an endpoint, in the order in which they were bound
+abbrev pub bound_data : List ℕ → List BoundFlow → ℕ → Data
+bound_data endpoint flows unit = object
+    (member (codes "endpoint") (string endpoint)
+    (member (codes "flows") (flows_data flows)
+    (member (codes "ok") (string (codes "flows"))
     (member (codes "unit") (whole unit) no_members))))

@@ -2,12 +2,13 @@
 use Rattle.std.specs.Prelude.{ℕ, List, [], ◌∷◌, codes}
 use Rattle.sp_json.specs.Names.{FieldsOf}
 use Rattle.sp_flowline.specs.declared.op.Op.{Op}
-use Rattle.sp_flowline.specs.declared.op.Op.TheVariants.{Provision, Deprovision, Change, Subscribe, Unsubscribe, Publish, Bind, Unbind, Pull, Settle, Tally, Copy}
+use Rattle.sp_flowline.specs.declared.op.Op.TheVariants.{Provision, Deprovision, Change, Subscribe, Unsubscribe, Publish, Bind, Unbind, Pull, Settle, Tally, Copy, Flows}
 
 -- all operations
 abbrev pub all_ops : List Op
 all_ops =
-    Provision ∷ Deprovision ∷ Change ∷ Subscribe ∷ Unsubscribe ∷ Publish ∷ Bind ∷ Unbind ∷ Pull ∷ Settle ∷ Tally ∷ Copy ∷ []
+    Provision ∷ Deprovision ∷ Change ∷ Subscribe ∷ Unsubscribe ∷ Publish ∷ Bind ∷ Unbind ∷ Pull ∷ Settle ∷ Tally ∷ Copy
+    ∷ Flows ∷ []
 
 -- the word for an operation
 abbrev pub op_word : Op → List ℕ
@@ -23,6 +24,7 @@ op_word Pull = codes "pull"
 op_word Settle = codes "settle"
 op_word Tally = codes "tally"
 op_word Copy = codes "copy"
+op_word Flows = codes "flows"
 
 -- the fields of a request of an operation: those that have to be there, those of which one has to be there, and
 -- those that may be
@@ -55,3 +57,4 @@ fields_of Settle =
     record { required = codes "op" ∷ codes "flow" ∷ codes "copy" ∷ codes "outcome" ∷ []; one_of = []; optional = [] }
 fields_of Tally = record { required = codes "op" ∷ []; one_of = []; optional = codes "endpoint" ∷ [] }
 fields_of Copy = record { required = codes "op" ∷ codes "copy" ∷ []; one_of = []; optional = [] }
+fields_of Flows = record { required = codes "op" ∷ codes "endpoint" ∷ []; one_of = []; optional = [] }

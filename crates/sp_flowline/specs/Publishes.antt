@@ -2,10 +2,10 @@
 use Rattle.std.specs.Prelude.{ℕ, List, [], ◌∷◌, false, Option, Result, Ok, Err, option_map, codes, if◌then◌else◌}
 use Rattle.serde_json.specs.Data.{Data}
 use Rattle.sp_base.specs.declared.refusal.Refusal.{Refusal}
-use Rattle.sp_base.specs.declared.refusal.Refusal.TheVariants.{DirectMode, BadTopic}
-use Rattle.sp_base.specs.Topic.{topic_fault}
+use Rattle.sp_base.specs.declared.refusal.Refusal.TheVariants.{DirectMode}
+use Rattle.sp_message.specs.Destination.{topic_from}
 use Rattle.sp_message.specs.declared.message.Dest.{Dest}
-use Rattle.sp_message.specs.declared.message.Dest.TheVariants.{Topic, Queue}
+use Rattle.sp_message.specs.declared.message.Dest.TheVariants.{Queue}
 use Rattle.sp_message.specs.declared.message.Message.{Message}
 use Rattle.sp_message.specs.declared.property.Property.{Property}
 use Rattle.sp_event.specs.declared.request.Event.{Event}
@@ -13,7 +13,7 @@ use Rattle.sp_event.specs.declared.request.Event.TheVariants as events
 use Rattle.sp_flowline.specs.declared.mode.Mode.{Mode}
 use Rattle.sp_flowline.specs.declared.mode.Mode.TheVariants.{Persistent, NonPersistent, Direct}
 use Rattle.sp_json.specs.Fields.{has_key, text_at, choice_or, name_at}
-use Rattle.sp_json.specs.Parts.{formed, unless, and_then}
+use Rattle.sp_base.specs.Parts.{formed, and_then}
 use Rattle.sp_json.specs.Payloads.{payload_in}
 use Rattle.sp_json.specs.Properties.{properties_at}
 
@@ -26,10 +26,6 @@ abbrev pub mode_word : Mode → List ℕ
 mode_word Persistent = codes "persistent"
 mode_word NonPersistent = codes "non-persistent"
 mode_word Direct = codes "direct"
-
--- the topic that a text is, or why it is none
-abbrev pub topic_from : List ℕ → Result Dest Refusal
-topic_from text = unless (option_map BadTopic (topic_fault text)) (Topic text)
 
 -- where the fields send a message; none, where one has a value outside its form
 abbrev pub dest_in : Data → Option (Result Dest Refusal)

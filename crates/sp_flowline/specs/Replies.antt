@@ -10,7 +10,7 @@ use Rattle.sp_event.specs.declared.answer.Reply.TheVariants as replies
 use Rattle.sp_json.specs.Fates.{with_fate}
 use Rattle.sp_json.specs.Members.{whole}
 use Rattle.sp_json.specs.Told.{copies_data, causes_data, with_details}
-use Rattle.sp_flowline.specs.FlowReplies.{bind_data, unbind_data, pull_data, settle_data}
+use Rattle.sp_flowline.specs.FlowReplies.{bind_data, unbind_data, pull_data, settle_data, bound_data}
 
 -- an endpoint that came, and its number
 abbrev pub provision_data : List ℕ → ℕ → ℕ → Data
@@ -67,3 +67,4 @@ reply_data (replies.Pull flow deliveries) unit = pull_data flow deliveries unit
 reply_data (replies.Settle copy fate) unit = settle_data copy fate unit
 reply_data (replies.Tally tally) unit = tally_data tally unit
 reply_data (replies.Copy copy fate details) unit = copy_data copy fate details unit
+reply_data (replies.Flows endpoint flows) unit = bound_data endpoint flows unit

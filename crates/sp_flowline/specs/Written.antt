@@ -29,7 +29,8 @@ use Rattle.sp_topic.specs.Subscription.{IsSubscription, is_exception}
 use Rattle.sp_json.specs.Deliveries.{with_destination}
 use Rattle.sp_json.specs.Members.{whole}
 use Rattle.sp_json.specs.Payloads.{AreBytes, with_payload}
-use Rattle.sp_json.specs.Properties.{AreProperties, properties_members}
+use Rattle.sp_json.specs.Properties.{properties_members}
+use Rattle.sp_message.specs.Property.{are_properties}
 use Rattle.sp_message.specs.declared.property.Property.{Property}
 use Rattle.sp_selector.specs.Takes.{selector_fault}
 use Rattle.sp_flowline.specs.Publishes.{message_to}
@@ -110,6 +111,7 @@ abbrev pub query_data : Query → Data
 query_data (queries.Tally None) = object (of_op (codes "tally"))
 query_data (queries.Tally (Some endpoint)) = object (with_endpoint endpoint (of_op (codes "tally")))
 query_data (queries.Copy copy) = object (put (codes "copy") (whole copy) (of_op (codes "copy")))
+query_data (queries.Flows endpoint) = object (with_endpoint endpoint (of_op (codes "flows")))
 
 -- a request as it is written
 abbrev pub request_data : Ask → Data
@@ -144,7 +146,7 @@ EventCanBeWritten (events.Subscribe endpoint subscription) = (is_name endpoint �
 EventCanBeWritten (events.Unsubscribe endpoint subscription) = (is_name endpoint ≡ true) × IsSubscription subscription
 EventCanBeWritten (events.Publish m) =
     (m ≡ message_to m.dest m.payload m.properties) × IsSendable m.dest × (length m.payload ≤ 8388608)
-    × AreBytes m.payload × AreProperties m.properties
+    × AreBytes m.payload × (are_properties m.properties ≡ true)
 EventCanBeWritten (events.Bind endpoint selector topic) =
     (is_name endpoint ≡ true) × IfSome selector (λ text. selector_fault text ≡ None)
     × IfSome topic (λ text. IsSubscription text × (is_exception text ≡ false))
@@ -156,6 +158,7 @@ abbrev pub CanBeWritten : Ask → Type 0
 CanBeWritten (Do event) = EventCanBeWritten event
 CanBeWritten (Look (queries.Tally endpoint)) = IfSome endpoint (λ name. is_name name ≡ true)
 CanBeWritten (Look (queries.Copy copy)) = copy ≤ 2 ^ 62
+CanBeWritten (Look (queries.Flows endpoint)) = is_name endpoint ≡ true
 
 -- each request that can be written is read back as itself
 abbrev pub RequestsReadBack : Type 0

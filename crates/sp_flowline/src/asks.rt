@@ -1,9 +1,9 @@
 // Requests from the fields of a JSON object.
 ghost use Rattle.std.specs.Prelude.{◌≡◌, IfOk, option_map};
 ghost use Rattle.serde_json.specs.View.{view};
-ghost use Rattle.sp_flowline.specs.Asks.{done, looked, tally_in, copy_in, ask_in};
+ghost use Rattle.sp_flowline.specs.Asks.{done, looked, tally_in, copy_in, flows_in, ask_in};
 ghost use Rattle.sp_base.specs.Declined.{Obeys};
-ghost use Rattle.sp_json.specs.Parts.{formed};
+ghost use Rattle.sp_base.specs.Parts.{formed};
 
 use crate::endpoint_events::{
     change_in, deprovision_in, provision_in, subscribe_in, unsubscribe_in,
@@ -15,7 +15,7 @@ use serde_json::Value;
 use sp_base::declined::Declined;
 use sp_base::refusal::Refusal;
 use sp_event::request::{Ask, Event, Query};
-use sp_json::fields::{optional_name_at, ranged_at};
+use sp_json::fields::{name_at, optional_name_at, ranged_at};
 use sp_json::parts::malformed;
 use std::alloc::{AllocError, Global};
 
@@ -38,6 +38,7 @@ pub fn ask_in(alloc: Global, value: &Value, op: Op) -> Result<Ask, Declined<Refu
         Op::Settle => done(settle_in(value)),
         Op::Tally => looked(tally_in(alloc, value)?),
         Op::Copy => looked(copy_in(value)),
+        Op::Flows => looked(flows_in(alloc, value)?),
     }
 }
 
@@ -73,4 +74,13 @@ fn copy_in(value: &Value) -> Option<Query>
 {
     let copy = ranged_at(value, "copy")?;
     Some(Query::Copy { copy })
+}
+
+fn flows_in(alloc: Global, value: &Value) -> Result<Option<Query>, AllocError>
+    ensures { IfOk result (λ r. r ≡ flows_in (view value.now)) }
+{
+    let Some(endpoint) = name_at(alloc, value, "endpoint")? else {
+        return Ok(None);
+    };
+    Ok(Some(Query::Flows { endpoint }))
 }

@@ -1,13 +1,14 @@
 // Replies of flows as JSON values.
 ghost use Rattle.std.specs.Prelude.{◌≡◌, IfOk};
 ghost use Rattle.serde_json.specs.View.{view};
-ghost use Rattle.sp_flowline.specs.FlowReplies.{bind_data, unbind_data, pull_data, settle_data};
+ghost use Rattle.sp_flowline.specs.FlowReplies.{bind_data, unbind_data, pull_data, settle_data, bound_data};
 
 use serde_json::{Map, Value, json};
 use sp_copies::closed::Fate;
-use sp_event::answer::{CopyFate, Delivery};
+use sp_event::answer::{BoundFlow, CopyFate, Delivery};
 use sp_json::deliveries::deliveries_value;
 use sp_json::fates::put_fate;
+use sp_json::flows::flows_value;
 use sp_json::members::{put_text, put_whole};
 use sp_json::told::closed_value;
 use std::alloc::{AllocError, Global};
@@ -62,4 +63,17 @@ pub fn settle_value(alloc: Global, copy: u64, fate: Fate, unit: u64) -> Result<V
     put_whole(&mut map, alloc, "unit", unit)?;
     put_fate(&mut map, alloc, fate)?;
     Ok(Value::Object(map))
+}
+
+/// The flows that are bound to an endpoint.
+pub fn bound_value(
+    alloc: Global,
+    endpoint: &str,
+    flows: &[BoundFlow],
+    unit: u64,
+) -> Result<Value, AllocError>
+    ensures { IfOk result (λ v. view v ≡ bound_data endpoint.now flows.now unit) }
+{
+    let flows = flows_value(alloc, flows)?;
+    json!(in alloc; {"endpoint": endpoint, "flows": flows, "ok": "flows", "unit": unit})
 }

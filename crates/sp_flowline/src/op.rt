@@ -19,11 +19,12 @@ pub enum Op {
     Settle,
     Tally,
     Copy,
+    Flows,
 }
 
 impl Choice for Op {
     ghost use Rattle.std.specs.Prelude.{refl};
-    ghost use Rattle.sp_flowline.specs.declared.op.Op.TheVariants.{Provision, Deprovision, Change, Subscribe, Unsubscribe, Publish, Bind, Unbind, Pull, Settle, Tally, Copy};
+    ghost use Rattle.sp_flowline.specs.declared.op.Op.TheVariants.{Provision, Deprovision, Change, Subscribe, Unsubscribe, Publish, Bind, Unbind, Pull, Settle, Tally, Copy, Flows};
     ghost use Rattle.sp_flowline.specs.Op.{op_word, all_ops};
 
     ghost word_of = { op_word };
@@ -44,6 +45,7 @@ impl Choice for Op {
             Op::Settle => "settle",
             Op::Tally => "tally",
             Op::Copy => "copy",
+            Op::Flows => "flows",
         }
     }
 
@@ -61,10 +63,11 @@ impl Choice for Op {
             Op::Settle,
             Op::Tally,
             Op::Copy,
+            Op::Flows,
         ]
     }
 
-    ghost each_by_its_word = { elim [ Provision ↦ refl | Deprovision ↦ refl | Change ↦ refl | Subscribe ↦ refl | Unsubscribe ↦ refl | Publish ↦ refl | Bind ↦ refl | Unbind ↦ refl | Pull ↦ refl | Settle ↦ refl | Tally ↦ refl | Copy ↦ refl ] };
+    ghost each_by_its_word = { elim [ Provision ↦ refl | Deprovision ↦ refl | Change ↦ refl | Subscribe ↦ refl | Unsubscribe ↦ refl | Publish ↦ refl | Bind ↦ refl | Unbind ↦ refl | Pull ↦ refl | Settle ↦ refl | Tally ↦ refl | Copy ↦ refl | Flows ↦ refl ] };
 }
 
 impl Op {
@@ -90,6 +93,7 @@ impl Op {
             Op::Settle => FieldNames::new(&["op", "flow", "copy", "outcome"], &[], &[]),
             Op::Tally => FieldNames::new(&["op"], &[], &["endpoint"]),
             Op::Copy => FieldNames::new(&["op", "copy"], &[], &[]),
+            Op::Flows => FieldNames::new(&["op", "endpoint"], &[], &[]),
         }
     }
 }

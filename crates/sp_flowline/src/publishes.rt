@@ -2,7 +2,8 @@
 ghost use Rattle.std.specs.Prelude.{◌≡◌, IfOk};
 ghost use Rattle.serde_json.specs.View.{view};
 ghost use Rattle.sp_base.specs.Declined.{Obeys};
-ghost use Rattle.sp_flowline.specs.Publishes.{topic_from, dest_in, message_to, sent, publish_in};
+ghost use Rattle.sp_message.specs.Destination.{topic_from};
+ghost use Rattle.sp_flowline.specs.Publishes.{dest_in, message_to, sent, publish_in};
 
 use crate::mode::Mode;
 use serde_json::Value;

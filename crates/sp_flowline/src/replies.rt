@@ -3,7 +3,7 @@ ghost use Rattle.std.specs.Prelude.{◌≡◌, IfOk};
 ghost use Rattle.serde_json.specs.View.{view};
 ghost use Rattle.sp_flowline.specs.Replies.{provision_data, endpoint_data, publish_data, tally_data, copy_data, reply_data};
 
-use crate::flow_replies::{bind_value, pull_value, settle_value, unbind_value};
+use crate::flow_replies::{bind_value, bound_value, pull_value, settle_value, unbind_value};
 use serde_json::{Map, Value, json};
 use sp_copies::closed::Fate;
 use sp_event::answer::{CopyDetails, PublishedCopy, Reply, Tally};
@@ -107,5 +107,8 @@ pub fn reply_value(alloc: Global, reply: &Reply, unit: u64) -> Result<Value, All
             fate,
             details,
         } => { copy_value(alloc, copy.value(), *fate, details, unit) }
+        Reply::Flows { endpoint, flows } => {
+            bound_value(alloc, endpoint.as_str(), flows.as_slice(), unit)
+        }
     }
 }

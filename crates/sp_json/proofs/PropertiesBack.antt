@@ -1,6 +1,6 @@
 -- Properties are read back as they are shown.
-use Rattle.std.proofs.Common.{◌≡◌, ◌∙◌, ◌++◌, ◌+◌, ◌<◌, ◌^◌, ◌-◌, ℕ, zero, suc, length, drop, get_or, Bool, true, List, [], ◌∷◌, Option, Some, None, refl, sym, ap, arith, append_assoc}
-use Rattle.std.specs.Prelude.{All, nat_le, nat_lt, pos, negsuc}
+use Rattle.std.proofs.Common.{◌≡◌, ◌∙◌, ◌++◌, ◌+◌, ◌<◌, ◌^◌, ◌-◌, ℕ, zero, suc, length, drop, get_or, true, List, [], ◌∷◌, Option, Some, None, refl, sym, ap, arith, append_assoc}
+use Rattle.std.specs.Prelude.{◌≤◌, ◌*◌, nat_le, nat_lt, pos, negsuc, unsigned_abs}
 use Rattle.std.specs.List.{list_all}
 use Rattle.std.specs.Ordering.{nat_cmp, is_lt, match_ordering}
 use Rattle.std.specs.declared.cmp.Ordering.{Ordering}
@@ -8,18 +8,17 @@ use Rattle.std.specs.declared.cmp.Ordering.TheVariants.{Less, Equal, Greater}
 use Rattle.std.specs.Cmp.Lexicographic.{slice_cmp}
 use Rattle.std.proofs.lemmas.List.{drop_more}
 use Rattle.std.specs.Option.{option_and_then, option_map}
-use Rattle.std.proofs.lemmas.List.Elements.{All-head, All-tail}
 use Rattle.std.proofs.lemmas.Bool.{cond-true}
 use Rattle.std.proofs.lemmas.Bool.Decides.{nat_tests}
 use Rattle.serde_json.specs.Data.{Data, object, Members, member, put}
 use Rattle.sp_message.proofs.Digits.{split_and}
 use Rattle.sp_message.proofs.FixedTexts.{fixed_back}
-use Rattle.sp_message.specs.Property.{are_properties, comes_before, is_name_byte, is_property, names_rise}
+use Rattle.sp_message.specs.Property.{kept, are_properties, comes_before, is_name_byte, is_property, names_rise}
 use Rattle.sp_message.specs.Value.{is_in_range}
 use Rattle.sp_message.specs.declared.property.Property.{Property}
 use Rattle.sp_message.specs.declared.value.Value.{Value}
 use Rattle.sp_message.specs.declared.value.Value.TheVariants as values
-use Rattle.sp_json.specs.Properties.{AreProperties, IsBounded, followed, kept, properties_from, properties_members, rows_from, value_data, value_from}
+use Rattle.sp_json.specs.Properties.{followed, properties_from, properties_members, rows_from, value_data, value_from}
 
 -- the rows so far, before those that are read next
 abbrev pub after : List Property → Option (List Property) → Option (List Property)
@@ -72,29 +71,32 @@ put_next rows i d lt h =
     put_first (get_or rows i d) (drop (i + 1) rows) (sym (ap names_rise more) ∙ rise_from i rows rise) ∙ ap properties_members (sym more)
 
 -- a value that keeps its rule is read back
-value_back : (v : Value) → is_in_range v ≡ true → IsBounded v → value_from (value_data v) ≡ Some v
-value_back (values.Whole (pos n)) h k = ap (option_map values.Whole) (cond-true _ _ _ (below n h))
+value_back : (v : Value) → is_in_range v ≡ true → value_from (value_data v) ≡ Some v
+value_back (values.Whole (pos n)) h = ap (option_map values.Whole) (cond-true _ _ _ (below n h))
   where
     below : (m : ℕ) → nat_le m (2 ^ 63 - 1) ≡ true → nat_lt m (2 ^ 63) ≡ true
     below m few = grind (arith, nat_tests)
-value_back (values.Whole (negsuc n)) h k = refl
-value_back (values.Fixed z) h k = ap (option_map values.Fixed) (fixed_back z k)
-value_back (values.Text text) h k = refl
-value_back (values.Bool truth) h k = refl
+value_back (values.Whole (negsuc n)) h = refl
+value_back (values.Fixed z) h = ap (option_map values.Fixed) (fixed_back z (at_most (unsigned_abs z) h))
+  where
+    at_most : (m : ℕ) → nat_le m ((2 ^ 63 - 1) * 1000000) ≡ true → m ≤ (2 ^ 63 - 1) * 1000000
+    at_most m few = grind (arith, nat_tests)
+value_back (values.Text text) h = refl
+value_back (values.Bool truth) h = refl
 
 -- each of them
-rows_back : (ps : List Property) → list_all is_property ps ≡ true → All (λ p. IsBounded p.value) ps → rows_from (properties_members ps) ≡ Some ps
-rows_back [] h k = refl
-rows_back (p ∷ ps) h k =
+rows_back : (ps : List Property) → list_all is_property ps ≡ true → rows_from (properties_members ps) ≡ Some ps
+rows_back [] h = refl
+rows_back (p ∷ ps) h =
     let both = split_and (is_property p) (list_all is_property ps) h in
     let range : is_in_range p.value ≡ true = third both.0 in
-    member_some p.name (value_data p.value) (properties_members ps) p.value (value_back p.value range (All-head (λ (q : Property). IsBounded q.value) p ps k))
-    ∙ ap (λ (rest : Option (List Property)). followed p.name rest p.value) (rows_back ps both.1 (All-tail (λ (q : Property). IsBounded q.value) p ps k))
+    member_some p.name (value_data p.value) (properties_members ps) p.value (value_back p.value range)
+    ∙ ap (λ (rest : Option (List Property)). followed p.name rest p.value) (rows_back ps both.1)
   where
     third : is_property p ≡ true → is_in_range p.value ≡ true
     third is = (split_and _ (is_in_range p.value) (split_and _ (list_all is_name_byte p.name) is).0).1
 
-pub properties_back : (ps : List Property) → AreProperties ps → properties_from (object (properties_members ps)) ≡ Some ps
+pub properties_back : (ps : List Property) → are_properties ps ≡ true → properties_from (object (properties_members ps)) ≡ Some ps
 properties_back ps h =
-    let rules = split_and _ _ (split_and _ _ h.rules).0 in
-    ap (option_and_then kept) (rows_back ps rules.1 h.bounds) ∙ cond-true _ _ _ h.rules
+    let rules = split_and _ _ (split_and _ _ h).0 in
+    ap (option_and_then kept) (rows_back ps rules.1) ∙ cond-true _ _ _ h

@@ -19,11 +19,13 @@ use Rattle.sp_message.specs.declared.message.Dest.{Dest}
 use Rattle.sp_copies.specs.declared.closed.CauseCount.{CauseCount}
 use Rattle.sp_copies.specs.declared.closed.Fate.{Fate}
 use Rattle.sp_copies.specs.declared.closed.Fate.TheVariants as fates
+use Rattle.sp_event.specs.declared.answer.BoundFlow.{BoundFlow}
 use Rattle.sp_event.specs.declared.answer.CopyDetails.{CopyDetails}
 use Rattle.sp_event.specs.declared.answer.CopyFate.{CopyFate}
 use Rattle.sp_event.specs.declared.answer.Delivery.{Delivery}
 use Rattle.sp_event.specs.declared.answer.PublishedCopy.{PublishedCopy}
 use Rattle.sp_json.specs.Deliveries.{with_destination, delivery_data}
+use Rattle.sp_json.specs.Flows.{flow_data}
 use Rattle.sp_json.specs.Fates.{cause_word, fate_word, with_end, with_fate}
 use Rattle.sp_json.specs.Members.{whole}
 use Rattle.sp_json.specs.Payloads.{base64_of, with_payload}
@@ -110,6 +112,10 @@ delivered d =
 pub deliveries : (ds : List Delivery) → items_have_float (items_of (map delivery_data ds)) ≡ false
 deliveries [] = refl
 deliveries (d ∷ ds) = ap (λ (b : Bool). b || items_have_float (items_of (map delivery_data ds))) (delivered d) ∙ deliveries ds
+
+pub flows : (fs : List BoundFlow) → items_have_float (items_of (map flow_data fs)) ≡ false
+flows [] = refl
+flows (f ∷ fs) = flows fs
 
 pub causes : (ks : List CauseCount) (ms : Members) → members_have_float ms ≡ false → members_have_float (fold with_cause ms ks) ≡ false
 causes [] ms h = h

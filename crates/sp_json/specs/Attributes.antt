@@ -17,7 +17,7 @@ use Rattle.sp_config.specs.Names.{all_attrs, attr_named, name_of}
 use Rattle.sp_config.specs.Ranges.{range_of}
 use Rattle.sp_config.specs.Settings.{is_allowed}
 use Rattle.sp_json.specs.Fields.{has_key, name_from}
-use Rattle.sp_json.specs.Parts.{formed, unless, and_then}
+use Rattle.sp_base.specs.Parts.{formed, unless, and_then}
 
 -- a name, or none for the empty text
 abbrev pub name_or_empty : List ℕ → Option (Option (List ℕ))

@@ -2,9 +2,9 @@ pub mod Attributes
 pub mod Deliveries
 pub mod Fates
 pub mod Fields
+pub mod Flows
 pub mod Members
 pub mod Names
-pub mod Parts
 pub mod Payloads
 pub mod Properties
 pub mod Refusals

@@ -1,10 +1,10 @@
 -- The properties of messages in JSON, both ways.
-use Rattle.std.specs.Prelude.{List, [], ◌∷◌, Bool, true, Option, Some, None, ◌≡◌, ◌≤◌, ◌*◌, ◌-◌, ◌^◌, All, codes, if◌then◌else◌, option_and_then, option_map}
-use Rattle.std.specs.Prelude.{ℕ, ℤ, unsigned_abs, ⊤}
+use Rattle.std.specs.Prelude.{List, [], ◌∷◌, Option, Some, None, codes, if◌then◌else◌, option_and_then, option_map}
+use Rattle.std.specs.Prelude.{ℕ, ℤ}
 use Rattle.serde_json.specs.Data.{Data, null, boolean, number, string, array, object, Members, no_members, member}
 use Rattle.serde_json.specs.Find.{as_i64, as_object, get, of_integer}
 use Rattle.sp_message.specs.Decimal.{fixed_of, fixed_text}
-use Rattle.sp_message.specs.Property.{are_properties}
+use Rattle.sp_message.specs.Property.{kept}
 use Rattle.sp_message.specs.declared.property.Property.{Property}
 use Rattle.sp_message.specs.declared.value.Value.{Value}
 use Rattle.sp_message.specs.declared.value.Value.TheVariants as values
@@ -36,10 +36,6 @@ abbrev pub rows_from : Members → Option (List Property)
 rows_from no_members = Some []
 rows_from (member name d ms) = option_and_then (followed name (rows_from ms)) (value_from d)
 
--- properties, unless they break the rules of names, values and numbers of them
-abbrev pub kept : List Property → Option (List Property)
-kept properties = if are_properties properties then Some properties else None
-
 -- the properties that an object gives
 abbrev pub properties_from : Data → Option (List Property)
 properties_from d = option_and_then kept (option_and_then rows_from (as_object d))
@@ -59,15 +55,3 @@ value_data (values.Bool truth) = boolean truth
 abbrev pub properties_members : List Property → Members
 properties_members [] = no_members
 properties_members (p ∷ ps) = member p.name (value_data p.value) (properties_members ps)
-
--- a fixed number has a magnitude of at most (2^63 - 1) million millionths
-abbrev pub IsBounded : Value → Type 0
-IsBounded (values.Whole z) = ⊤
-IsBounded (values.Fixed z) = unsigned_abs z ≤ (2 ^ 63 - 1) * 1000000
-IsBounded (values.Text text) = ⊤
-IsBounded (values.Bool truth) = ⊤
-
--- what the properties of each message are
-pub record AreProperties (ps : List Property) : Type 0 where
-  pub rules : are_properties ps ≡ true
-  pub bounds : All (λ p. IsBounded p.value) ps

@@ -3,7 +3,7 @@ use Rattle.std.specs.Prelude.{ℕ, List, Option, Some, None, Result, Ok, option_
 use Rattle.sp_base.specs.declared.refusal.Refusal.{Refusal}
 use Rattle.sp_base.specs.declared.refusal.Refusal.TheVariants.{BadSelector}
 use Rattle.sp_selector.specs.Takes.{selector_fault}
-use Rattle.sp_json.specs.Parts.{unless, and_then}
+use Rattle.sp_base.specs.Parts.{unless, and_then}
 
 -- the selector that a text is, unless it is bad
 abbrev pub selector_of : List ℕ → Result (List ℕ) Refusal

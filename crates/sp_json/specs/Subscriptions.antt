@@ -5,7 +5,7 @@ use Rattle.sp_base.specs.declared.refusal.Refusal.{Refusal}
 use Rattle.sp_base.specs.declared.refusal.Refusal.TheVariants.{BadSubscription}
 use Rattle.sp_topic.specs.Subscription.{subscription_fault}
 use Rattle.sp_json.specs.Fields.{text_at}
-use Rattle.sp_json.specs.Parts.{formed, unless, and_then}
+use Rattle.sp_base.specs.Parts.{formed, unless, and_then}
 
 abbrev pub subscription_from : List ℕ → Result (List ℕ) Refusal
 subscription_from text = unless (option_map BadSubscription (subscription_fault text)) text

@@ -1,6 +1,6 @@
 // The attributes that a request gives values to.
 ghost use Rattle.std.specs.Prelude.{◌≡◌, ◌++◌, [], IfOk, OnOk, Some, is_some, option_map, option_and_then};
-ghost use Rattle.std.specs.List.{cons_option, filter_map};
+ghost use Rattle.std.specs.List.{filter_map};
 ghost use Rattle.serde_json.specs.Find.{as_str, get};
 ghost use Rattle.serde_json.specs.View.{view, members_view};
 ghost use Rattle.sp_config.specs.Choices.{word_place};
@@ -16,6 +16,7 @@ use crate::parts::malformed;
 use serde_json::Value;
 use sp_base::choice::{Choice, named};
 use sp_base::declined::Declined;
+use sp_base::items::push_some;
 use sp_base::name::Name;
 use sp_base::refusal::Refusal;
 use sp_base::text::Str;
@@ -124,15 +125,6 @@ fn settings_among(
         push_some(&mut rows, setting)?;
     }
     Ok(rows)
-}
-
-fn push_some(rows: &mut Vec<Setting>, setting: Option<Setting>) -> Result<(), AllocError>
-    ensures { OnOk result (rows.new.items ≡ rows.old.items ++ cons_option setting []) }
-{
-    match setting {
-        Some(setting) => Ok(rows.push(setting)?),
-        None => Ok(()),
-    }
 }
 
 fn setting_in(

@@ -6,6 +6,7 @@ pub mod attributes;
 pub mod deliveries;
 pub mod fates;
 pub mod fields;
+pub mod flows;
 pub mod members;
 pub mod names;
 pub mod parts;

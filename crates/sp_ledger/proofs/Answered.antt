@@ -1,10 +1,12 @@
 -- What answers to queries tell is so, and tallies that are told are balanced.
+use Rattle.sp_access.specs.Activity.{flows_of}
 use Rattle.sp_access.specs.Flows.{flow_of}
 use Rattle.sp_access.specs.Flow.{FlowView}
 use Rattle.sp_base.specs.declared.refusal.Refusal.TheVariants.{UnknownEndpoint, UnknownFlow}
 use Rattle.sp_copies.specs.History.{fate_of}
 use Rattle.sp_endpoint.specs.Endpoint.{EndpointView}
-use Rattle.sp_endpoint.specs.Endpoints.{named, queue_named}
+use Rattle.sp_endpoint.specs.Endpoints.{named, numbered, queue_named}
+use Rattle.sp_event.specs.declared.answer.BoundFlow.{BoundFlow}
 use Rattle.sp_event.specs.declared.answer.CopyFate.{CopyFate}
 use Rattle.sp_event.specs.declared.answer.Reply.{Reply}
 use Rattle.sp_event.specs.declared.answer.Reply.TheVariants as replies
@@ -17,7 +19,7 @@ use Rattle.sp_ledger.proofs.Decided.{OnPassed, passed_on_found, passed_unless, p
 use Rattle.sp_ledger.proofs.Decided.{where_idle}
 use Rattle.sp_ledger.proofs.Tallies.{tally_balanced}
 use Rattle.sp_ledger.proofs.Telling.{single}
-use Rattle.sp_ledger.specs.Answer.{answer, answer_on, copy_reply, gave}
+use Rattle.sp_ledger.specs.Answer.{answer, answer_on, bound_flow, copy_reply, gave}
 use Rattle.sp_ledger.specs.Changes.{Change}
 use Rattle.sp_ledger.specs.Events.{outcome, step}
 use Rattle.sp_ledger.specs.Ledger.{Ledger}
@@ -29,7 +31,7 @@ use Rattle.sp_ledger.specs.Tally.{IsBalanced, TellsBalanced, tally_in, told_tall
 use Rattle.sp_ledger.specs.Told.{TellsFates}
 use Rattle.std.proofs.Common.{refl, subst}
 use Rattle.std.proofs.lemmas.List.Elements.{All-cons, All-nil}
-use Rattle.std.specs.Prelude.{All, List, None, Option, Some, [], ℕ, ◌<◌, ◌∷◌, ◌≡◌}
+use Rattle.std.specs.Prelude.{All, List, None, Option, Some, [], map, ℕ, ◌<◌, ◌∷◌, ◌≡◌}
 
 -- a query's answer of a tally tells no fate, and that of a copy the fate that it has
 module _ (P : Reply → Type 0) (L : Ledger) (r : Reply) where
@@ -41,28 +43,41 @@ module _ (P : Reply → Type 0) (L : Ledger) (r : Reply) where
       subst P (let same : replies.Tally (tally_in L.copies (Some found.number)) ≡ r = cc in same)
       (shown (Some found.number))
 
-  each_answer : ((e : Option ℕ) → P (replies.Tally (tally_in L.copies e))) →
-      ((copy : ℕ) → P (copy_reply L.copies copy)) → (moment : ℕ) (caller : List ℕ) (q : Query) →
+  flows_on : (name : List ℕ) (found : Option EndpointView) →
+      ((endpoint : List ℕ) (flows : List BoundFlow) → P (replies.Flows endpoint flows)) →
+      answer_on found (UnknownEndpoint name)
+      (λ e. replies.Flows e.name (map (bound_flow L e) (flows_of L.flows e.number))) ≡ gave r → P r
+  flows_on name None shown e = absurd (cc)
+  flows_on name (Some found) shown e =
+      subst P (let same : replies.Flows found.name (map (bound_flow L found) (flows_of L.flows found.number)) ≡ r = cc in same)
+      (shown found.name (map (bound_flow L found) (flows_of L.flows found.number)))
+
+  pub each_answer : ((e : Option ℕ) → P (replies.Tally (tally_in L.copies e))) →
+      ((copy : ℕ) → P (copy_reply L.copies copy)) →
+      ((endpoint : List ℕ) (flows : List BoundFlow) → P (replies.Flows endpoint flows)) → (moment : ℕ) (caller : List ℕ) (q : Query) →
       answer moment caller q L ≡ gave r → P r
-  each_answer tallies copies moment caller (queries.Tally None) e =
+  each_answer tallies copies flows moment caller (queries.Tally None) e =
       subst P (let same : replies.Tally (tally_in L.copies None) ≡ r = cc in same) (tallies None)
-  each_answer tallies copies moment caller (queries.Tally (Some name)) e =
+  each_answer tallies copies flows moment caller (queries.Tally (Some name)) e =
       answered_on name (named name L.endpoints) tallies e
-  each_answer tallies copies moment caller (queries.Copy copy) e =
+  each_answer tallies copies flows moment caller (queries.Copy copy) e =
       subst P (let same : copy_reply L.copies copy ≡ r = cc in same) (copies copy)
+  each_answer tallies copies flows moment caller (queries.Flows name) e =
+      flows_on name (named name L.endpoints) flows e
 
 pub answer_tells : (L : Ledger) (moment : ℕ) (caller : List ℕ) (q : Query) (r : Reply) →
     answer moment caller q L ≡ gave r → TellsFates L.copies r
 answer_tells L moment caller q r e =
     each_answer (TellsFates L.copies) L r (λ e. All-nil (λ (t : CopyFate). fate_of L.copies t.copy ≡ t.fate))
     (λ copy. All-cons (λ (t : CopyFate). fate_of L.copies t.copy ≡ t.fate) _ [] refl
-    (All-nil (λ (t : CopyFate). fate_of L.copies t.copy ≡ t.fate))) moment caller q e
+    (All-nil (λ (t : CopyFate). fate_of L.copies t.copy ≡ t.fate)))
+    (λ endpoint flows. All-nil (λ (t : CopyFate). fate_of L.copies t.copy ≡ t.fate)) moment caller q e
 
 -- each tally that is told is balanced, and no event tells one
 pub answer_balanced : (L : Ledger) → IsSound L → (moment : ℕ) (caller : List ℕ) (q : Query) (r : Reply) →
     answer moment caller q L ≡ gave r → TellsBalanced r
 answer_balanced L s moment caller q r e =
-    each_answer TellsBalanced L r balanced (λ copy t is. absurd (cc)) moment caller q e
+    each_answer TellsBalanced L r balanced (λ copy t is. absurd (cc)) (λ endpoint flows t is. absurd (cc)) moment caller q e
   where
     balanced : (e : Option ℕ) → TellsBalanced (replies.Tally (tally_in L.copies e))
     balanced e t is = subst IsBalanced (let same : tally_in L.copies e ≡ t = cc in same) (tally_balanced L s e)
@@ -90,7 +105,9 @@ module _ (L : Ledger) where
   silent caller (events.Unbind flow) =
       passed_on_found {X = FlowView} Silent (UnknownFlow flow) _ (flow_of L.flows caller flow) (λ f found p. refl)
   silent caller (events.Pull flow count) =
-      passed_on_found {X = FlowView} Silent (UnknownFlow flow) _ (flow_of L.flows caller flow) (λ f found p. refl)
+      passed_on_found {X = FlowView} Silent (UnknownFlow flow) _ (flow_of L.flows caller flow)
+      (λ f found.
+      passed_on_found {X = EndpointView} Silent (UnknownFlow flow) _ (numbered f.endpoint L.endpoints) (λ e there p. refl))
   silent caller (events.Settle flow copy settling.TheVariants.Accepted) =
       passed_on_found {X = FlowView} Silent (UnknownFlow flow) _ (flow_of L.flows caller flow) (λ f found p. refl)
 

@@ -28,6 +28,7 @@ use Rattle.sp_ledger.specs.Limits.{greatest_quota, spent}
 use Rattle.sp_ledger.specs.One.{has_its_closing, has_its_copy, is_bound_for, is_by_move}
 use Rattle.sp_ledger.specs.Sound.{AreEndpoints, AreFlows, AreLogged, AreMessages, AreNext, AreReplays, IsSound}
 use Rattle.sp_ledger.specs.Sound.{has_message, movable_count}
+use Rattle.sp_ledger.specs.Turns.{IsInTurn}
 use Rattle.std.proofs.Common.{ap, arith, refl, subst, ◌∙◌}
 use Rattle.std.proofs.lemmas.Bool.{eqb-true}
 use Rattle.std.proofs.lemmas.List.Elements.{All-filter, All-map, All-push, All-weaker}
@@ -82,8 +83,9 @@ pub sound_of : (L : Ledger) →
     AreKept greatest_quota L.flows L.endpoints L.messages L.next.endpoint L.next.unit L.copies →
     L.copies.next + movable_count L.copies ≤ spent + 1 → AreEndpoints L.next.endpoint L.endpoints →
     AreMessages L.next.message L.messages → AreFlows L.next.flow L.endpoints L.flows →
-    AreReplays L.next.replay L.replays → AreLogged L.messages L.log → AreNext L.next → IsSound L
-sound_of L k bound endpoints messages flows replays logged next = record {
+    AreReplays L.next.replay L.replays → AreLogged L.messages L.log → AreNext L.next →
+    All (IsInTurn L.flows L.copies) L.endpoints → IsSound L
+sound_of L k bound endpoints messages flows replays logged next turns = record {
   one = record {
     numbered = record {
       next_above = k.history.next_above;
@@ -112,6 +114,7 @@ sound_of L k bound endpoints messages flows replays logged next = record {
   replays = replays;
   logged = logged;
   next = next;
+  turns = turns;
 }
 
 module _ (flows : List FlowView) (endpoints : List EndpointView) (messages : List Published) (next unit : ℕ) where

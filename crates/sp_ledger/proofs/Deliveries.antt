@@ -1,11 +1,11 @@
 -- Each copy that is handed out is delivered.
-use Rattle.sp_access.specs.Flow.{FlowView}
 use Rattle.sp_copies.specs.History.{is_closed, is_open_in, waiting_copies}
 use Rattle.sp_copies.specs.declared.made.MadeCopy.{MadeCopy}
+use Rattle.sp_endpoint.specs.Endpoint.{EndpointView}
 use Rattle.sp_ledger.proofs.HandedOut.{waiting, waits}
 use Rattle.sp_ledger.proofs.Listed.{and_right, none_found}
 use Rattle.sp_ledger.specs.Ledger.{Ledger, Published, message_of}
-use Rattle.sp_ledger.specs.OnFlows.{delivered, deliveries, may_take, pulled, reach}
+use Rattle.sp_ledger.specs.OnFlows.{can_take, delivered, deliveries, pulled, reach}
 use Rattle.sp_ledger.specs.Sound.{IsSound, has_message}
 use Rattle.sp_message.specs.Size.{size_of}
 use Rattle.std.proofs.Common.{ap, refl}
@@ -46,21 +46,21 @@ each_found L (c ∷ cs) all =
     one None is rest = absurd (cc)
     one (Some m) is rest = ap (λ ns. c.number ∷ ns) rest
 
-pub all_delivered : (L : Ledger) → IsSound L → (f : FlowView) (count : ℕ) →
-    map (λ d. d.copy) (deliveries L (pulled L f count)) ≡ map (λ c. c.number) (pulled L f count)
-all_delivered L s f count =
-    each_found L (pulled L f count)
-    (All-take (λ (c : MadeCopy). IsTrue (is_some (message_of L.messages c.message))) _ (reach L f)
-    (All-filter (may_take L f) (λ (c : MadeCopy). IsTrue (is_some (message_of L.messages c.message)))
-    (waiting_copies L.copies f.endpoint L.now)
+pub all_delivered : (L : Ledger) → IsSound L → (e : EndpointView) (flow count : ℕ) →
+    map (λ d. d.copy) (deliveries L (pulled L e flow count)) ≡ map (λ c. c.number) (pulled L e flow count)
+all_delivered L s e flow count =
+    each_found L (pulled L e flow count)
+    (All-take (λ (c : MadeCopy). IsTrue (is_some (message_of L.messages c.message))) _ (reach L e flow)
+    (All-filter (can_take L e flow) (λ (c : MadeCopy). IsTrue (is_some (message_of L.messages c.message)))
+    (waiting_copies L.copies e.number L.now)
     (All-weaker (λ (c : MadeCopy).
     (IsTrue (is_closed L.copies.closed c.number || has_message L.messages c) × IsTrue
-    (is_open_in L.copies.closed f.endpoint c)) × IsTrue (waits L.copies f.endpoint L.now c))
+    (is_open_in L.copies.closed e.number c)) × IsTrue (waits L.copies e.number L.now c))
     (λ (c : MadeCopy). IsTrue (is_some (message_of L.messages c.message)))
     (λ c h. found_by_number L.messages c
-    (one (is_closed L.copies.closed c.number) h.0.0 (and_right (c.endpoint == f.endpoint) _ h.0.1)))
-    (waiting_copies L.copies f.endpoint L.now)
-    (waiting L.copies f.endpoint L.now
+    (one (is_closed L.copies.closed c.number) h.0.0 (and_right (c.endpoint == e.number) _ h.0.1)))
+    (waiting_copies L.copies e.number L.now)
+    (waiting L.copies e.number L.now
     (λ (c : MadeCopy). IsTrue (is_closed L.copies.closed c.number || has_message L.messages c)) s.copies.messages))))
   where
     one : {there : Bool} (closed : Bool) → (closed || there) ≡ true → not closed ≡ true → there ≡ true

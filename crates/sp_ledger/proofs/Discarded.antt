@@ -20,7 +20,7 @@ use Rattle.sp_ledger.specs.Changes.{Change, all_changed, becomes, binds, changed
 use Rattle.sp_ledger.specs.Events.{outcome}
 use Rattle.sp_ledger.specs.Ledger.{Ledger}
 use Rattle.sp_ledger.specs.Limits.{spent}
-use Rattle.sp_ledger.specs.OnFlows.{bind, is_rebound, new_flow, new_topic, outdated, rebound, topic_check}
+use Rattle.sp_ledger.specs.OnFlows.{bind, is_rebound, new_flow, rebinding, outdated, rebound, topic_check}
 use Rattle.sp_ledger.specs.Step.{accepted, begun, on_found}
 use Rattle.std.proofs.Common.{ap, append-nil, append_assoc, refl, subst, sym, ◌∙◌}
 use Rattle.std.proofs.lemmas.Bool.{and_from, eq-eqb}
@@ -129,7 +129,7 @@ module _ (L : Ledger) (moment : ℕ) (caller name : List ℕ) (selector topic : 
   bound x = binds (new_flow L.next.flow caller x selector) ∷ []
 
   abbrev more : EndpointView → List Change
-  more x = new_topic x (to x) ++ bound x
+  more x = rebinding x (to x) ++ bound x
 
   none_here : Other → open_copies (all_changed (gone e) B).copies e.number ≡ []
   none_here other =
@@ -156,11 +156,11 @@ module _ (L : Ledger) (moment : ℕ) (caller name : List ℕ) (selector topic : 
 
   -- the same of the list as a bind writes it
   after_bind : Other → (x : EndpointView) → e ≡ x →
-      open_copies (all_changed (gone x ++ new_topic x (to x) ++ bound x) B).copies e.number ≡ []
+      open_copies (all_changed (gone x ++ rebinding x (to x) ++ bound x) B).copies e.number ≡ []
   after_bind other x same =
-      subst (λ y. open_copies (all_changed (gone y ++ new_topic y (to y) ++ bound y) B).copies e.number ≡ []) same
+      subst (λ y. open_copies (all_changed (gone y ++ rebinding y (to y) ++ bound y) B).copies e.number ≡ []) same
       (subst (λ cs. open_copies (all_changed cs B).copies e.number ≡ [])
-      (sym (append_assoc (gone e) (new_topic e (to e)) (bound e))) (after other))
+      (sym (append_assoc (gone e) (rebinding e (to e)) (bound e))) (after other))
 
   -- an accepted bind to another topic leaves none of the endpoint's copies spooled
   pub none_after_bind : (M : Ledger) (told : List Reply) →

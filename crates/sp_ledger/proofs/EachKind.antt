@@ -20,7 +20,9 @@ use Rattle.sp_ledger.proofs.Logged.{logged_after}
 use Rattle.sp_ledger.proofs.Moving.{enough_left, fewer_movable, move_counts, moved_kept}
 use Rattle.sp_ledger.proofs.OneKept.{bound-flow, there-weaker}
 use Rattle.sp_ledger.proofs.Shared.{MayShare, shared_kept, shared_next}
-use Rattle.sp_ledger.specs.Allowed.{AreAllowed, IsAllowed, IsShare, MayBecome, MayBind, MayCome, MayPublish}
+use Rattle.sp_ledger.proofs.TurnsKept.{held_below, turn_bound, turn_held, turn_let_go, turn_made, turn_shared}
+use Rattle.sp_ledger.proofs.TurnsKept.{turn_unbound, turns_becoming, turns_coming}
+use Rattle.sp_ledger.specs.Allowed.{AreAllowed, HasTurn, IsAllowed, IsShare, MayBecome, MayBind, MayCome, MayPublish}
 use Rattle.sp_ledger.specs.Allowed.{MayRepeat, MayStart}
 use Rattle.sp_ledger.specs.Changes.{Change, Share, all_changed, all_shared, binds, becomes, changed, closes, comes}
 use Rattle.sp_ledger.specs.Changes.{ends, frees, goes, goes_on, holds, logs, moves, publishes, repeats, starts}
@@ -30,6 +32,7 @@ use Rattle.sp_ledger.specs.Limits.{greatest_quota}
 use Rattle.sp_ledger.specs.One.{is_bound_for, is_by_move}
 use Rattle.sp_ledger.specs.Sound.{AreReplays, IsSound, has_endpoint, movable_count, suits_flow}
 use Rattle.sp_ledger.specs.Step.{begun}
+use Rattle.sp_ledger.specs.Turns.{IsInTurn}
 use Rattle.sp_message.specs.Size.{size_of}
 use Rattle.sp_message.specs.declared.message.Message.{Message}
 use Rattle.std.proofs.Common.{ap, arith, le_trans, refl, subst, sym, ◌∙◌}
@@ -56,6 +59,7 @@ begun_sound moment L s =
       replay = s.next.replay;
       unit = omega arith;
     })
+    s.turns
 
 -- an endpoint comes, goes, or has other fields
 comes_sound : (L : Ledger) (e : EndpointView) → IsSound L → MayCome L e → IsSound (changed (comes e) L)
@@ -79,6 +83,7 @@ comes_sound L e s may =
       replay = s.next.replay;
       unit = s.next.unit;
     })
+    (turns_coming L e s (kept_of L s).history may.number)
 
 goes_sound : (L : Ledger) (endpoint : ℕ) → IsSound L → spooled_count L.copies (Some endpoint) ≡ 0 →
     flow_count L.flows endpoint ≡ 0 → IsSound (changed (goes endpoint) L)
@@ -91,6 +96,7 @@ goes_sound L endpoint s none unbound =
     (omega arith) (omega arith))
     s.copies.next (after_going L.next.endpoint endpoint L.endpoints s.endpoints) s.messages
     (flows_without L.next.flow endpoint L.endpoints L.flows unbound s.flows) s.replays s.logged s.next
+    (All-filter (λ (e : EndpointView). not (e.number == endpoint)) (IsInTurn L.flows L.copies) L.endpoints s.turns)
 
 becomes_sound : (L : Ledger) (e : EndpointView) → IsSound L → MayBecome L e → IsSound (changed (becomes e) L)
 becomes_sound L e s may =
@@ -100,7 +106,7 @@ becomes_sound L e s may =
     (there_in_place L e may L.copies.closed L.copies.made s.one.open_there) (λ c is. is) (omega arith) (omega arith))
     s.copies.next (after_becoming L e may L.next.endpoint s.endpoints) s.messages
     (flows_among L.next.flow L.endpoints (replaced e L.endpoints) L.flows (has_endpoint_in_place L e may) s.flows)
-    s.replays s.logged s.next
+    s.replays s.logged s.next (turns_becoming L e s (kept_of L s).history may)
 
 -- a message is published
 publishes_sound : (L : Ledger) (m : Message) (shares : List Share) → IsSound L → MayPublish L m shares →
@@ -138,6 +144,8 @@ publishes_sound L m shares s may =
       replay = s.next.replay;
       unit = s.next.unit;
     })
+    (All-weaker (IsInTurn L.flows L.copies) (IsInTurn L.flows (all_shared L.now shares L.copies))
+    (λ e t. turn_shared L.flows e L.now shares L.copies (held_below L.copies (kept_of L s).history) t) L.endpoints s.turns)
   where
     may_share : (t : Share) → IsShare L m t →
         MayShare L.flows L.endpoints (with_message m L) L.next.endpoint L.next.unit L.now t L.copies
@@ -159,10 +167,11 @@ publishes_sound L m shares s may =
 -- the copies change, and all else stays
 copies_sound : (L : Ledger) (K : History) → IsSound L →
     AreKept greatest_quota L.flows L.endpoints L.messages L.next.endpoint L.next.unit K →
-    K.next + movable_count K ≤ L.copies.next + movable_count L.copies → IsSound (record L { copies = K })
-copies_sound L K s k fewer =
+    K.next + movable_count K ≤ L.copies.next + movable_count L.copies →
+    ((e : EndpointView) → IsInTurn L.flows L.copies e → IsInTurn L.flows K e) → IsSound (record L { copies = K })
+copies_sound L K s k fewer in_turn =
     sound_of (record L { copies = K }) k (le_trans fewer s.copies.next) s.endpoints s.messages s.flows s.replays
-    s.logged s.next
+    s.logged s.next (All-weaker (IsInTurn L.flows L.copies) (IsInTurn L.flows K) in_turn L.endpoints s.turns)
 
 -- a flow is bound
 binds_sound : (L : Ledger) (f : FlowView) → IsSound L → MayBind L f → IsSound (changed (binds f) L)
@@ -193,6 +202,8 @@ binds_sound L f s may =
       replay = s.next.replay;
       unit = s.next.unit;
     })
+    (All-weaker (IsInTurn L.flows L.copies) (IsInTurn (L.flows ++ f ∷ []) L.copies)
+    (λ e t. turn_bound L.flows f L.copies e t) L.endpoints s.turns)
 
 -- a flow goes that holds nothing
 unbinds_sound : (L : Ledger) (flow : ℕ) → IsSound L → All (λ h. (h.flow == flow) ≡ false) L.copies.held →
@@ -216,6 +227,8 @@ unbinds_sound L flow s none =
       callers = All-filter keep (λ (a : FlowView). IsTrue (is_caller a.caller)) L.flows s.flows.callers;
     })
     s.replays s.logged s.next
+    (All-weaker (IsInTurn L.flows L.copies) (IsInTurn (without_flow flow L.flows) L.copies)
+    (λ e t. turn_unbound L.flows flow L.copies e none t) L.endpoints s.turns)
   where
     stays : (h : HeldCopy) → IsTrue (is_bound_for L.flows L.copies.made h) → (h.flow == flow) ≡ false →
         IsTrue (is_bound_for (without_flow flow L.flows) L.copies.made h)
@@ -245,6 +258,8 @@ repeats_sound L c s may =
     })
     (kept_of L s) sound (used-with_made L.copies c greatest_quota s.copies.quota fits))
     (omega (arith, enough, unspent)) s.endpoints s.messages s.flows s.replays s.logged s.next
+    (All-weaker (IsInTurn L.flows L.copies) (IsInTurn L.flows (with_made c L.copies))
+    (λ e t. turn_made L.flows e c L.copies (held_below L.copies (kept_of L s).history) t) L.endpoints s.turns)
 
 -- a replay starts, or goes on
 starts_sound : (L : Ledger) (r : Replay) → IsSound L → MayStart L r → IsSound (changed (starts r) L)
@@ -268,6 +283,7 @@ starts_sound L r s may =
       replay = omega (arith, unspent);
       unit = s.next.unit;
     })
+    s.turns
 
 replays_go_on : (next : ℕ) (r : Replay) (rs : List Replay) → AreReplays next rs →
     AreReplays next (map (λ old. if old.number == r.number then r else old) rs)
@@ -297,27 +313,38 @@ change_sound (becomes e) L s may = becomes_sound L e s may
 change_sound (publishes m shares) L s may = publishes_sound L m shares s may
 change_sound (logs log) L s may =
     sound_of (changed (logs log) L) (kept_of L s) s.copies.next s.endpoints s.messages s.flows s.replays may s.next
+    s.turns
 change_sound (repeats c) L s may = repeats_sound L c s may
 change_sound (closes copy how) L s may =
     copies_sound L (with_closed copy how L.now L.copies) s
     (closed_kept L.flows L.endpoints L.messages L.next.endpoint L.next.unit greatest_quota copy how L.now L.copies
     (kept_of L s) may.0 may.1) (let fewer = fewer_movable L.copies copy how L.now in omega (arith, fewer))
+    (λ e t. turn_let_go L.flows e L.copies (with_closed copy how L.now L.copies) copy refl refl t)
 change_sound (moves copy new) L s may =
     copies_sound L (with_made new (with_closed copy (closings.Moved L.copies.next) L.now L.copies)) s
     (moved_kept L copy new s may) (move_counts L copy new s may)
+    (λ e t. let K = with_closed copy (closings.Moved L.copies.next) L.now L.copies in
+    turn_made L.flows e new K (All-filter (λ (h : HeldCopy). not (h.copy == copy))
+    (λ (h : HeldCopy). h.copy < L.copies.next) L.copies.held (held_below L.copies (kept_of L s).history))
+    (turn_let_go L.flows e L.copies K copy refl refl t))
 change_sound (holds copy flow) L s may =
-    copies_sound L (with_held copy flow L.copies) s
+    sound_of (changed (holds copy flow) L)
     (held_kept L.flows L.endpoints L.messages L.next.endpoint L.next.unit copy flow L.copies (kept_of L s) may.free
-    may.bound may.attempts) (omega arith)
+    may.bound may.attempts) s.copies.next s.endpoints s.messages s.flows s.replays s.logged s.next
+    (All-weaker (λ (e : EndpointView). HasTurn L (record { copy = copy; flow = flow }) e × IsInTurn L.flows L.copies e)
+    (IsInTurn L.flows (with_held copy flow L.copies))
+    (λ e both. turn_held L.flows e L copy flow both.0 refl both.1) L.endpoints
+    (All-both (HasTurn L (record { copy = copy; flow = flow })) (IsInTurn L.flows L.copies) L.endpoints may.turn s.turns))
 change_sound (frees copy) L s may =
     copies_sound L (with_given_back copy L.copies) s
     (freed_kept L.flows L.endpoints L.messages L.next.endpoint L.next.unit copy L.copies (kept_of L s)) (omega arith)
+    (λ e t. turn_let_go L.flows e L.copies (with_given_back copy L.copies) copy refl refl t)
 change_sound (binds f) L s may = binds_sound L f s may
 change_sound (unbinds flow) L s may = unbinds_sound L flow s may.1
 change_sound (starts r) L s may = starts_sound L r s may
 change_sound (goes_on r) L s may =
     sound_of (changed (goes_on r) L) (kept_of L s) s.copies.next s.endpoints s.messages s.flows
-    (replays_go_on L.next.replay r L.replays s.replays) s.logged s.next
+    (replays_go_on L.next.replay r L.replays s.replays) s.logged s.next s.turns
 change_sound (ends replay) L s may =
     sound_of (changed (ends replay) L) (kept_of L s) s.copies.next s.endpoints s.messages s.flows
     (record {
@@ -326,7 +353,7 @@ change_sound (ends replay) L s may =
       below =
           All-filter (λ (r : Replay). not (r.number == replay)) (λ (r : Replay). r.number < L.next.replay) L.replays
           s.replays.below;
-    }) s.logged s.next
+    }) s.logged s.next s.turns
 
 -- and so a list of them
 pub changes_sound : (changes : List Change) (L : Ledger) → IsSound L → AreAllowed changes L →

@@ -67,6 +67,7 @@ empty_sound next copy are unit some few = record {
       off = λ is. refl;
     };
     next = are;
+    turns = none {X = EndpointView} _;
   };
   unit = unit;
 }

@@ -1,6 +1,6 @@
 -- Endpoints that are found and get other fields.
 use Rattle.sp_config.proofs.Settled.{allowed_in_range, settings_keep_ranges}
-use Rattle.sp_config.specs.Attributes.{AreInRange, AttributesView, defaults, quota_of}
+use Rattle.sp_config.specs.Attributes.{AreInRange, AttributesView, defaults, is_exclusive, quota_of}
 use Rattle.sp_config.specs.Change.{with_value}
 use Rattle.sp_config.specs.Names.{name_of}
 use Rattle.sp_config.specs.Ranges.{is_in_range}
@@ -12,6 +12,7 @@ use Rattle.sp_config.specs.declared.kind.EndpointKind.TheVariants.{Queue, TopicE
 use Rattle.sp_config.specs.declared.setting.Setting.{Setting}
 use Rattle.sp_config.specs.declared.value.AttrValue.{AttrValue}
 use Rattle.sp_config.specs.declared.value.AttrValue.TheVariants.{Flag, Text, Whole, Word}
+use Rattle.sp_copies.specs.Counts.{spooled_count}
 use Rattle.sp_endpoint.specs.Endpoint.{EndpointView}
 use Rattle.sp_endpoint.specs.Endpoints.{is_queue}
 use Rattle.sp_ledger.proofs.Listed.{All-find, and_both, and_left, and_right, not_true, pairs_head, pairs_tail}
@@ -19,13 +20,14 @@ use Rattle.sp_ledger.specs.Allowed.{MayBecome}
 use Rattle.sp_ledger.specs.Ledger.{Ledger}
 use Rattle.sp_ledger.specs.Limits.{greatest_quota}
 use Rattle.sp_endpoint.specs.Endpoint.{new_endpoint}
+use Rattle.sp_ledger.specs.OnEndpoints.{differ, shares_otherwise}
 use Rattle.sp_ledger.specs.OnFlows.{fits_kind, flow_selector, own_selector}
 use Rattle.sp_ledger.specs.Sound.{AreEndpoints, IsEndpoint, suits_flow, suits_kind}
-use Rattle.std.proofs.Common.{ap, arith, refl, subst, sym, ◌∙◌}
+use Rattle.std.proofs.Common.{ap, ap₂, arith, refl, subst, sym, ◌∙◌}
 use Rattle.std.proofs.lemmas.Bool.{eq-eqb, eqb-true, leb-true, ltb-false}
 use Rattle.std.proofs.lemmas.List.Elements.{All-cons, All-weaker}
 use Rattle.std.specs.Prelude.{All, AllPairs, Bool, List, None, Option, Some, [], cond, false, find, is_none, is_some, length}
-use Rattle.std.specs.Prelude.{nat_le, nat_lt, not, option_map, true, ℕ, ◌<◌, ◌==◌, ◌∷◌, ◌≡◌, ◌≤◌}
+use Rattle.std.specs.Prelude.{nat_le, nat_lt, not, option_map, true, ℕ, ◌<◌, ◌==◌, ◌||◌, ◌∷◌, ◌≡◌, ◌≤◌}
 
 not_some : {X : Type 0} (found : Option X) → is_some found ≡ false → found ≡ None
 not_some None h = refl
@@ -144,16 +146,45 @@ module _ (p : EndpointView → Bool) (e : EndpointView) where
 -- other fields may stand in the place of an endpoint that was found
 pub may_become : (L : Ledger) (p : EndpointView → Bool) (e new : EndpointView) →
     AreEndpoints L.next.endpoint L.endpoints → find p L.endpoints ≡ Some e → new.number ≡ e.number →
-    new.name ≡ e.name → new.kind ≡ e.kind → IsEndpoint new → MayBecome L new
-may_become L p e new are found number name kind fits = record {
+    new.name ≡ e.name → new.kind ≡ e.kind →
+    (shares_otherwise e.attributes new.attributes ≡ true → spooled_count L.copies (Some new.number) ≡ 0) →
+    IsEndpoint new → MayBecome L new
+may_become L p e new are found number name kind sharing fits = record {
   named = All-weaker (IsOnly p e) (λ (x : EndpointView). (x.number == new.number) ≡ true → x.name ≡ new.name)
       (λ x only is. let same : x ≡ e = only (subst (λ n. (x.number == n) ≡ true) number is) in
       ap (λ (y : EndpointView). y.name) same ∙ sym name) L.endpoints (only_found p e L.endpoints are.rise found);
   kind = All-weaker (IsOnly p e) (λ (x : EndpointView). (x.number == new.number) ≡ true → x.kind ≡ new.kind)
       (λ x only is. let same : x ≡ e = only (subst (λ n. (x.number == n) ≡ true) number is) in
       ap (λ (y : EndpointView). y.kind) same ∙ sym kind) L.endpoints (only_found p e L.endpoints are.rise found);
+  sharing = All-weaker (IsOnly p e) (λ (x : EndpointView). (x.number == new.number) ≡ true →
+      shares_otherwise x.attributes new.attributes ≡ true → spooled_count L.copies (Some new.number) ≡ 0)
+      (λ x only is other. let same : x ≡ e = only (subst (λ n. (x.number == n) ≡ true) number is) in
+      sharing (subst (λ (y : EndpointView). shares_otherwise y.attributes new.attributes ≡ true) same other))
+      L.endpoints (only_found p e L.endpoints are.rise found);
   fits = fits;
 }
+
+-- the same attributes share copies likewise
+differ_own : (b : Bool) → differ b b ≡ false
+differ_own true = refl
+differ_own false = refl
+
+pub shares_own : (a : AttributesView) → shares_otherwise a a ≡ false
+shares_own a =
+    ap (λ b. b || not (a.partition_count == a.partition_count)) (differ_own (is_exclusive a.access_type))
+    ∙ ap not (eq-eqb a.partition_count a.partition_count refl)
+
+-- so that no endpoint of the number shares them otherwise
+pub shares_no_other : (L : Ledger) (p : EndpointView → Bool) (e new : EndpointView) →
+    AreEndpoints L.next.endpoint L.endpoints → find p L.endpoints ≡ Some e → new.number ≡ e.number →
+    new.attributes ≡ e.attributes →
+    All (λ x. (x.number == new.number) ≡ true → shares_otherwise x.attributes new.attributes ≡ false) L.endpoints
+shares_no_other L p e new are found number same_attributes =
+    All-weaker (IsOnly p e)
+    (λ (x : EndpointView). (x.number == new.number) ≡ true → shares_otherwise x.attributes new.attributes ≡ false)
+    (λ x only is. let same : x ≡ e = only (subst (λ n. (x.number == n) ≡ true) number is) in
+    ap₂ (λ (y : EndpointView) (a : AttributesView). shares_otherwise y.attributes a) same same_attributes
+    ∙ shares_own e.attributes) L.endpoints (only_found p e L.endpoints are.rise found)
 
 pub endpoint_found : (L : Ledger) (p : EndpointView → Bool) (e : EndpointView) →
     AreEndpoints L.next.endpoint L.endpoints → find p L.endpoints ≡ Some e → IsEndpoint e

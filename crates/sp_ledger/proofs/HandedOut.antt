@@ -1,17 +1,17 @@
 -- What a flow is handed out is free, and of its endpoint.
-use Rattle.sp_access.specs.Flow.{FlowView}
 use Rattle.sp_copies.proofs.Marks.{eqb-turned}
 use Rattle.sp_copies.specs.History.{History, has_come, is_free, is_held, is_made, is_open_in, is_spooled, open_copies}
 use Rattle.sp_copies.specs.History.{waiting_copies, with_held}
 use Rattle.sp_copies.specs.Sound.{IsSoundHistory}
 use Rattle.sp_copies.specs.declared.held.HeldCopy.{HeldCopy}
 use Rattle.sp_copies.specs.declared.made.MadeCopy.{MadeCopy}
+use Rattle.sp_endpoint.specs.Endpoint.{EndpointView}
 use Rattle.sp_ledger.proofs.Listed.{All-both, All-kept, and_both, and_left, and_right, any_self, lesser_is_not}
 use Rattle.sp_ledger.proofs.Listed.{pairs_take}
 use Rattle.sp_ledger.specs.Ledger.{Ledger}
-use Rattle.sp_ledger.specs.OnFlows.{may_take, pulled, reach}
+use Rattle.sp_ledger.specs.OnFlows.{can_take, pulled, reach}
 use Rattle.std.proofs.Common.{ap, refl, ◌∙◌}
-use Rattle.std.proofs.lemmas.Bool.{eq-eqb}
+use Rattle.std.proofs.lemmas.Bool.{eq-eqb, eqb-true}
 use Rattle.std.proofs.lemmas.List.Elements.{All-filter, All-take, All-weaker}
 use Rattle.std.proofs.lemmas.List.Folds.{list_any-append, list_any_none}
 use Rattle.std.proofs.lemmas.List.Kept.{AllPairs-filter}
@@ -63,27 +63,43 @@ module _ (H : History) (e moment : ℕ) where
       (waiting (λ (c : MadeCopy). in_endpoint c c ≡ true → list_any (in_endpoint c) H.made ≡ true)
       (any_self {X = MadeCopy} in_endpoint H.made))
 
--- what is pulled is free, was made in the flow's endpoint, and rises
-module _ (L : Ledger) (f : FlowView) (count : ℕ) where
-  pub pulled_free : All (λ c. is_free L.copies c.number ≡ true) (pulled L f count)
-  pulled_free = All-take (λ (c : MadeCopy). is_free L.copies c.number ≡ true) _ (reach L f)
-      (All-filter (may_take L f) (λ (c : MadeCopy). is_free L.copies c.number ≡ true)
-      (waiting_copies L.copies f.endpoint L.now) (waiting_free L.copies f.endpoint L.now))
+-- what is pulled is free, was made in the endpoint, rises, and may be taken
+module _ (L : Ledger) (e : EndpointView) (flow count : ℕ) where
+  -- what holds of each copy that waits
+  among : (P : MadeCopy → Type 0) → All P (waiting_copies L.copies e.number L.now) → All P (pulled L e flow count)
+  among P all = All-take P _ (reach L e flow)
+      (All-filter (can_take L e flow) P (waiting_copies L.copies e.number L.now) all)
 
-  pub pulled_in : All (λ c. list_any (in_endpoint L.copies f.endpoint L.now c) L.copies.made ≡ true) (pulled L f count)
-  pulled_in = All-take (λ (c : MadeCopy). list_any (in_endpoint L.copies f.endpoint L.now c) L.copies.made ≡ true) _
-      (reach L f)
-      (All-filter (may_take L f) (λ (c : MadeCopy).
-      list_any (in_endpoint L.copies f.endpoint L.now c) L.copies.made ≡ true)
-      (waiting_copies L.copies f.endpoint L.now) (waiting_in L.copies f.endpoint L.now))
+  pub pulled_free : All (λ c. is_free L.copies c.number ≡ true) (pulled L e flow count)
+  pulled_free = among (λ (c : MadeCopy). is_free L.copies c.number ≡ true) (waiting_free L.copies e.number L.now)
 
-  pub pulled_rise : IsSoundHistory L.copies → AllPairs (λ c d. c.number < d.number) (pulled L f count)
-  pulled_rise s =
-      pairs_take (λ (c d : MadeCopy). c.number < d.number) _ (reach L f)
-      (AllPairs-filter (λ (c d : MadeCopy). c.number < d.number) (may_take L f) _
+  pub pulled_in : All (λ c. list_any (in_endpoint L.copies e.number L.now c) L.copies.made ≡ true) (pulled L e flow count)
+  pulled_in = among (λ (c : MadeCopy). list_any (in_endpoint L.copies e.number L.now c) L.copies.made ≡ true)
+      (waiting_in L.copies e.number L.now)
+
+  -- with what holds of each copy that was made
+  pub pulled_made : (P : MadeCopy → Type 0) → All P L.copies.made →
+      All (λ c. P c × (c.endpoint ≡ e.number)) (pulled L e flow count)
+  pulled_made P all = among (λ (c : MadeCopy). P c × (c.endpoint ≡ e.number))
+      (All-weaker (λ (c : MadeCopy).
+      (P c × IsTrue (is_open_in L.copies.closed e.number c)) × IsTrue (waits L.copies e.number L.now c))
+      (λ (c : MadeCopy). P c × (c.endpoint ≡ e.number))
+      (λ c h. (h.0.0, eqb-true _ _ (and_left (c.endpoint == e.number) _ h.0.1)))
+      (waiting_copies L.copies e.number L.now) (waiting L.copies e.number L.now P all))
+
+  pub pulled_taken : All (λ c. can_take L e flow c ≡ true) (pulled L e flow count)
+  pulled_taken = All-take (λ (c : MadeCopy). can_take L e flow c ≡ true) _ (reach L e flow)
+      (All-kept (can_take L e flow) (waiting_copies L.copies e.number L.now))
+
+  pub reach_rises : IsSoundHistory L.copies → AllPairs (λ c d. c.number < d.number) (reach L e flow)
+  reach_rises s =
+      AllPairs-filter (λ (c d : MadeCopy). c.number < d.number) (can_take L e flow) _
       (AllPairs-filter (λ (c d : MadeCopy). c.number < d.number) _ _
-      (AllPairs-filter (λ (c d : MadeCopy). c.number < d.number) (is_open_in L.copies.closed f.endpoint)
-      L.copies.made s.rise)))
+      (AllPairs-filter (λ (c d : MadeCopy). c.number < d.number) (is_open_in L.copies.closed e.number)
+      L.copies.made s.rise))
+
+  pub pulled_rise : IsSoundHistory L.copies → AllPairs (λ c d. c.number < d.number) (pulled L e flow count)
+  pulled_rise s = pairs_take (λ (c d : MadeCopy). c.number < d.number) _ (reach L e flow) (reach_rises s)
 
 -- a copy stays free where a lesser one is handed out
 pub still_free : (H : History) (flow c d : ℕ) → c < d → is_free H d ≡ true → is_free (with_held c flow H) d ≡ true

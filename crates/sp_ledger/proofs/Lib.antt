@@ -11,12 +11,14 @@ pub mod Shared
 pub mod Moving
 pub mod EndpointsKept
 pub mod Logged
+pub mod TurnsKept
 pub mod EachKind
 pub mod Empty
 pub mod Fields
 pub mod Taken
 pub mod GivenBack
 pub mod HandedOut
+pub mod TurnsTaken
 pub mod OneKind
 pub mod Steps
 -- What the other laws say.
@@ -30,6 +32,7 @@ pub mod Telling
 pub mod Answered
 pub mod Fits
 pub mod Deliveries
+pub mod InOrder
 pub mod Discarded
 -- Worked examples.
 pub mod Examples

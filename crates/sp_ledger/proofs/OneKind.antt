@@ -4,18 +4,21 @@ use Rattle.sp_copies.specs.Counts.{is_moved}
 use Rattle.sp_copies.specs.History.{is_free, is_held, is_spooled, let_go, once_more, with_closed, with_held}
 use Rattle.sp_copies.specs.declared.closed.Closing.{Closing}
 use Rattle.sp_copies.specs.declared.held.CopyAttempts.{CopyAttempts}
+use Rattle.sp_copies.specs.declared.held.HeldCopy.{HeldCopy}
 use Rattle.sp_copies.specs.declared.made.MadeCopy.{MadeCopy}
+use Rattle.sp_endpoint.specs.Endpoint.{EndpointView}
 use Rattle.sp_ledger.proofs.CopiesKept.{still_spooled_beside}
 use Rattle.sp_ledger.proofs.GivenBack.{all_freed, still_held_above}
 use Rattle.sp_ledger.proofs.HandedOut.{none_greater, still_free}
 use Rattle.sp_ledger.proofs.Listed.{All-both, or_left, or_right, pairs_head, pairs_tail}
-use Rattle.sp_ledger.specs.Allowed.{AreAllowed}
+use Rattle.sp_ledger.specs.Allowed.{AreAllowed, HasTurn}
 use Rattle.sp_ledger.specs.Changes.{all_changed, changed, closes, frees, holds}
 use Rattle.sp_ledger.specs.Ledger.{Ledger}
 use Rattle.sp_ledger.specs.One.{is_bound_for}
+use Rattle.sp_ledger.specs.Turns.{is_in_partition}
 use Rattle.std.proofs.Common.{refl, subst, sym, ◌∙◌}
 use Rattle.std.proofs.lemmas.Bool.{eqb-true}
-use Rattle.std.proofs.lemmas.List.Elements.{All-head, All-map, All-tail, All-weaker}
+use Rattle.std.proofs.lemmas.List.Elements.{All-head, All-map, All-push, All-tail, All-weaker}
 use Rattle.std.specs.List.{list_any}
 use Rattle.std.specs.Prelude.{All, AllPairs, Bool, IsTrue, List, Some, [], cond, false, map, true, ℕ, ◌+◌, ◌<◌, ◌==◌}
 use Rattle.std.specs.Prelude.{◌∷◌, ◌≡◌}
@@ -71,9 +74,10 @@ pub hold_allowed : (flow : ℕ) (cs : List MadeCopy) (K : Ledger) → All (λ c.
     AllPairs (λ c d. c.number < d.number) cs →
     All (λ c. IsTrue (is_bound_for K.flows K.copies.made (record { copy = c.number; flow = flow }))) cs →
     All (λ a. list_any (λ c. c.number == a.copy) cs ≡ true → a.count + 1 < K.next.unit) K.copies.attempts →
+    All (λ c. All (HasTurn K (record { copy = c.number; flow = flow })) K.endpoints) cs →
     AreAllowed (map (λ c. holds c.number flow) cs) K
-hold_allowed flow [] K unheld rise bound few = tt
-hold_allowed flow (c ∷ cs) K unheld rise bound few =
+hold_allowed flow [] K unheld rise bound few turns = tt
+hold_allowed flow (c ∷ cs) K unheld rise bound few turns =
     let above = pairs_head (λ (a b : MadeCopy). a.number < b.number) c cs rise in (
       record {
         free = All-head (λ (d : MadeCopy). is_free K.copies d.number ≡ true) c cs unheld;
@@ -84,6 +88,8 @@ hold_allowed flow (c ∷ cs) K unheld rise bound few =
             a.count + 1 < K.next.unit)
             (λ (a : CopyAttempts). (a.copy == c.number) ≡ true → a.count + 1 < K.next.unit)
             (λ a h is. h (or_left (c.number == a.copy) _ (eqb-turned c.number a.copy ∙ is))) K.copies.attempts few;
+        turn = All-head (λ (d : MadeCopy). All (HasTurn K (record { copy = d.number; flow = flow })) K.endpoints)
+            c cs turns;
       },
       hold_allowed flow cs (changed (holds c.number flow) K)
           (All-weaker (λ (d : MadeCopy). (is_free K.copies d.number ≡ true) × (c.number < d.number))
@@ -102,9 +108,24 @@ hold_allowed flow (c ∷ cs) K unheld rise bound few =
           (λ (a : CopyAttempts). list_any
           (λ (d : MadeCopy). d.number == (cond (a.copy == c.number) (once_more a) a).copy) cs ≡ true →
           (cond (a.copy == c.number) (once_more a) a).count + 1 < K.next.unit)
-          (λ a h. later a above h (a.copy == c.number) refl) K.copies.attempts few)),
+          (λ a h. later a above h (a.copy == c.number) refl) K.copies.attempts few))
+          (All-weaker (λ (d : MadeCopy). All (HasTurn K (record { copy = d.number; flow = flow })) K.endpoints)
+          (λ (d : MadeCopy). All (HasTurn (changed (holds c.number flow) K) (record { copy = d.number; flow = flow }))
+          K.endpoints)
+          (λ d ts. All-weaker (HasTurn K (record { copy = d.number; flow = flow }))
+          (HasTurn (changed (holds c.number flow) K) (record { copy = d.number; flow = flow })) (still_turn d) K.endpoints ts)
+          cs (All-tail (λ (d : MadeCopy). All (HasTurn K (record { copy = d.number; flow = flow })) K.endpoints)
+          c cs turns)),
     )
   where
+    still_turn : (d : MadeCopy) (e : EndpointView) → HasTurn K (record { copy = d.number; flow = flow }) e →
+        HasTurn (changed (holds c.number flow) K) (record { copy = d.number; flow = flow }) e
+    still_turn d e t = record {
+      first = t.first;
+      alone = λ pa p is. All-push (λ (g : HeldCopy). is_in_partition K.copies.made e.number p g ≡ true → g.flow ≡ flow)
+          K.copies.held (record { copy = c.number; flow = flow }) (t.alone pa p is) (λ here. refl);
+    }
+
     later : (a : CopyAttempts) → All (λ (d : MadeCopy). c.number < d.number) cs →
         (list_any (λ (d : MadeCopy). d.number == a.copy) (c ∷ cs) ≡ true → a.count + 1 < K.next.unit) →
         (b : Bool) → (a.copy == c.number) ≡ b →

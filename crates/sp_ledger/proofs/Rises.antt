@@ -5,7 +5,7 @@ use Rattle.sp_base.specs.Refusal.{number_of}
 use Rattle.sp_base.specs.declared.refusal.Refusal.{Refusal}
 use Rattle.sp_base.specs.declared.refusal.Refusal.TheVariants.{UnknownEndpoint, UnknownFlow}
 use Rattle.sp_endpoint.specs.Endpoint.{EndpointView}
-use Rattle.sp_endpoint.specs.Endpoints.{named, queue_named}
+use Rattle.sp_endpoint.specs.Endpoints.{named, numbered, queue_named}
 use Rattle.sp_endpoint.specs.Takers.{takers}
 use Rattle.sp_event.specs.declared.request.Event.{Event}
 use Rattle.sp_event.specs.declared.request.Event.TheVariants as events
@@ -57,7 +57,7 @@ module _ (L : Ledger) where
 
   -- what a publish changes
   abbrev published : Message → Ledger → List Change
-  published m B = publishes m (map (share_for B.next.message (size_of m)) (takers B.endpoints m)) ∷ []
+  published m B = publishes m (map (share_for m B.next.message) (takers B.endpoints m)) ∷ []
 
   pub step_rises : (caller : List ℕ) (event : Event) (B : Ledger) → Rise (step caller event B)
   step_rises caller (events.Provision name kind settings) B =
@@ -85,11 +85,12 @@ module _ (L : Ledger) where
   step_rises caller (events.Bind name selector topic) B =
       rise_unless (topic_check topic) (on_found (named name B.endpoints) (UnknownEndpoint name) _)
       (rise_found {X = EndpointView} (UnknownEndpoint name) _ (named name B.endpoints)
-      (λ e. (omega arith, (omega arith, (omega arith, (omega arith, tt))))))
+      (λ e. (omega arith, (omega arith, (omega arith, (omega arith, (omega arith, tt)))))))
   step_rises caller (events.Unbind flow) B =
       rise_found {X = FlowView} (UnknownFlow flow) _ (flow_of B.flows caller flow) (λ f. (omega arith, tt))
   step_rises caller (events.Pull flow count) B =
-      rise_found {X = FlowView} (UnknownFlow flow) _ (flow_of B.flows caller flow) (λ f. (omega arith, tt))
+      rise_found {X = FlowView} (UnknownFlow flow) _ (flow_of B.flows caller flow)
+      (λ f. rise_found {X = EndpointView} (UnknownFlow flow) _ (numbered f.endpoint B.endpoints) (λ e. (omega arith, tt)))
   step_rises caller (events.Settle flow copy settling.TheVariants.Accepted) B =
       rise_found {X = FlowView} (UnknownFlow flow) _ (flow_of B.flows caller flow)
       (λ f. (omega arith, (omega arith, tt)))

@@ -1,9 +1,10 @@
 -- The changes of each step are allowed, one after another.
-use Rattle.sp_access.specs.Flows.{flow_count, flow_of}
+use Rattle.sp_access.specs.Flows.{flow_count, flow_numbered, flow_of}
 use Rattle.sp_access.specs.Flow.{FlowView}
 use Rattle.sp_base.specs.Name.{is_caller}
 use Rattle.sp_base.specs.declared.refusal.Kind.TheVariants as kinds
-use Rattle.sp_base.specs.declared.refusal.Refusal.TheVariants.{BadSubscription, InUse, UnknownEndpoint, UnknownFlow}
+use Rattle.sp_base.specs.declared.refusal.Refusal.TheVariants.{BadSubscription, BindLimit, InUse, UnknownEndpoint}
+use Rattle.sp_base.specs.declared.refusal.Refusal.TheVariants.{UnknownFlow}
 use Rattle.sp_config.proofs.Settled.{defaults_in_range}
 use Rattle.sp_config.specs.Attributes.{defaults, quota_of}
 use Rattle.sp_config.specs.Settings.{with_settings}
@@ -18,7 +19,7 @@ use Rattle.sp_copies.specs.declared.held.CopyAttempts.{CopyAttempts}
 use Rattle.sp_copies.specs.declared.held.HeldCopy.{HeldCopy}
 use Rattle.sp_copies.specs.declared.made.MadeCopy.{MadeCopy}
 use Rattle.sp_endpoint.specs.Endpoint.{EndpointView}
-use Rattle.sp_endpoint.specs.Endpoints.{is_queue, is_there, named, queue_named}
+use Rattle.sp_endpoint.specs.Endpoints.{is_queue, is_there, named, numbered, queue_named}
 use Rattle.sp_endpoint.specs.Takers.{takers}
 use Rattle.sp_event.specs.declared.answer.Reply.{Reply}
 use Rattle.sp_event.specs.declared.answer.Reply.TheVariants as replies
@@ -32,21 +33,23 @@ use Rattle.sp_ledger.proofs.Decided.{parts_of, passes-append, where_accepted}
 use Rattle.sp_ledger.proofs.EachKind.{begun_sound, changes_sound, units_after}
 use Rattle.sp_ledger.proofs.EndpointsKept.{has_endpoint_in_place}
 use Rattle.sp_ledger.proofs.Fields.{allowed_keep_ranges, endpoint_found, may_become, new_suits, quota_below}
-use Rattle.sp_ledger.proofs.Fields.{flow_suits, settings_suit, texts_suit, topic_suits}
+use Rattle.sp_ledger.proofs.Fields.{flow_suits, settings_suit, shares_no_other, shares_own, texts_suit, topic_suits}
 use Rattle.sp_ledger.proofs.GivenBack.{held_by_held, held_by_rises, none_held}
-use Rattle.sp_ledger.proofs.HandedOut.{in_endpoint, pulled_free, pulled_in, pulled_rise}
+use Rattle.sp_ledger.proofs.HandedOut.{in_endpoint, pulled_free, pulled_in, pulled_made, pulled_rise, pulled_taken}
 use Rattle.sp_ledger.proofs.Listed.{All-any, All-both, All-kept, and_both, and_left, and_right, any_found, any_self}
 use Rattle.sp_ledger.proofs.Listed.{find_passes, lesser_is_not, none_found, not_false}
 use Rattle.sp_ledger.proofs.OneByOne.{allowed_append}
 use Rattle.sp_ledger.proofs.OneKind.{close_allowed, closes_all, free_allowed, frees_all, hold_allowed}
+use Rattle.sp_ledger.proofs.TurnsTaken.{found_by_key, own_key, turn_taken}
 use Rattle.sp_ledger.proofs.Taken.{takers_all, takers_apart}
-use Rattle.sp_ledger.specs.Allowed.{AreAllowed, IsShare, MayBecome, MayBind, changes_of}
-use Rattle.sp_ledger.specs.Changes.{Change, Share, all_changed, binds, becomes, closes, frees, unbinds}
+use Rattle.sp_ledger.specs.Allowed.{AreAllowed, HasTurn, IsShare, MayBecome, MayBind, changes_of}
+use Rattle.sp_ledger.specs.Changes.{Change, Share, all_changed, binds, becomes, closes, frees, holds, unbinds}
 use Rattle.sp_ledger.specs.Events.{outcome, step}
 use Rattle.sp_ledger.specs.Ledger.{Ledger}
 use Rattle.sp_ledger.specs.Limits.{last_copy, most_endpoints, most_subscriptions, spent}
-use Rattle.sp_ledger.specs.OnEndpoints.{change_step, deprovision, provision, subscribe, unsubscribe}
-use Rattle.sp_ledger.specs.OnFlows.{bind, fits_kind, is_rebound, new_flow, new_topic, outdated, pull, pulled, rebound, settle}
+use Rattle.sp_ledger.specs.OnEndpoints.{change_step, deprovision, provision, shares_otherwise, subscribe, unsubscribe}
+use Rattle.sp_ledger.specs.OnFlows.{bind, can_take, deliveries, fits_kind, is_rebound, new_flow, outdated, pull}
+use Rattle.sp_ledger.specs.OnFlows.{pulled, rebinding, rebound, settle}
 use Rattle.sp_ledger.specs.OnFlows.{topic_check, unbind}
 use Rattle.sp_ledger.specs.One.{is_bound_for}
 use Rattle.sp_ledger.specs.Publish.{publish, quota_check, share_for}
@@ -54,7 +57,7 @@ use Rattle.sp_ledger.specs.Sound.{IsEndpoint, IsLedger, IsSound, suits_flow}
 use Rattle.sp_ledger.specs.Step.{Step, accepted, begun, does, is_copy_spent, is_spent, on_found}
 use Rattle.sp_message.specs.Size.{size_of}
 use Rattle.sp_message.specs.declared.message.Message.{Message}
-use Rattle.std.proofs.Common.{append_assoc, arith, length-append, refl, subst, sym}
+use Rattle.std.proofs.Common.{append_assoc, arith, length-append, refl, subst, sym, ◌∙◌}
 use Rattle.std.proofs.lemmas.Bool.{eq-eqb, eqb-true, leb-false, ltb-false}
 use Rattle.std.proofs.lemmas.List.{length-map}
 use Rattle.std.proofs.lemmas.List.Elements.{All-filter, All-map, All-weaker}
@@ -62,12 +65,21 @@ use Rattle.std.proofs.lemmas.List.Kept.{AllPairs-filter}
 use Rattle.std.proofs.lemmas.List.Sums.{count_by-le-length, length-filter}
 use Rattle.std.specs.List.{list_any}
 use Rattle.std.specs.Prelude.{All, AllPairs, Bool, IsTrue, List, Option, Some, [], bytes_eq, cond, false, filter}
-use Rattle.std.specs.Prelude.{length, map, not, true, ℕ, ◌&&◌, ◌++◌, ◌+◌, ◌<◌, ◌==◌, ◌∷◌, ◌≡◌, ◌≤◌}
+use Rattle.std.specs.Prelude.{length, map, nat_le, not, true, ℕ, ◌&&◌, ◌++◌, ◌+◌, ◌<◌, ◌==◌, ◌∷◌, ◌≡◌, ◌≤◌}
 
 abbrev Allowed : Ledger → List Change → Reply → Type 0
 Allowed L changes reply = AreAllowed changes L
 
+-- where the first is so and not both, the second isn't
+second_false : (a b : Bool) → (a && b) ≡ false → a ≡ true → b ≡ false
+second_false true b is here = is
+second_false false b is here = absurd (cc)
+
 module _ (L : Ledger) (s : IsSound L) where
+  -- a copy that was made is the one of its number
+  abbrev OwnKey : MadeCopy → Type 0
+  OwnKey c = All (λ d. (d.number == c.number) ≡ true → d ≡ c) L.copies.made
+
   provision_allowed : (caller name : List ℕ) (kind : EndpointKind) (settings : List Setting) →
       OnPassed (Allowed L) (provision caller name kind settings L)
   provision_allowed caller name kind settings p = (
@@ -104,6 +116,8 @@ module _ (L : Ledger) (s : IsSound L) where
       let old = endpoint_found L (λ x. bytes_eq x.name name) e s.endpoints found in (
         may_become L (λ x. bytes_eq x.name name) e (record e { attributes = with_settings settings e.attributes })
             s.endpoints found refl refl refl
+            (λ other. eqb-true _ 0 (and_right (flow_count L.flows e.number == 0) _
+            (not_false _ (second_false _ _ p.1.0 other))))
             (record {
               ranges = allowed_keep_ranges e.kind settings e.attributes old.ranges p.0;
               subscriptions = old.subscriptions;
@@ -120,6 +134,7 @@ module _ (L : Ledger) (s : IsSound L) where
       let p : EndpointView → Bool = λ x. is_queue x.kind && bytes_eq x.name name in
       let old = endpoint_found L p queue s.endpoints found in (
         may_become L p queue (record queue { subscriptions = texts }) s.endpoints found refl refl refl
+            (λ other. absurd (let alike = shares_own queue.attributes in let no_one : true ≡ false = sym other ∙ alike in cc))
             (record {
               ranges = old.ranges;
               subscriptions = few;
@@ -155,15 +170,15 @@ module _ (L : Ledger) (s : IsSound L) where
       let parts : Passes (map (quota_check L size) into) × Passes numbers =
       passes-append (map (quota_check L size) into) numbers p.1 in
       let room = ltb-false (last_copy + 1) (L.copies.next + length into) parts.1.1.0 in
-      let many = length-map into (share_for L.next.message size) in (
+      let many = length-map into (share_for m L.next.message) in (
         record {
           unspent = leb-false spent L.next.message parts.1.0;
           copies = omega (arith, room, many);
           each =
-              All-map (IsShare L m) (share_for L.next.message size) into
+              All-map (IsShare L m) (share_for m L.next.message) into
               (All-weaker (λ (e : EndpointView). ((quota_check L size e).broken ≡ false)
               × (IsTrue (is_there L.endpoints e.number) × IsEndpoint e))
-              (λ (e : EndpointView). IsShare L m (share_for L.next.message size e))
+              (λ (e : EndpointView). IsShare L m (share_for m L.next.message e))
               (λ e h. share_fits e h.0 h.1.0 h.1.1) into
               (All-both (λ (e : EndpointView). (quota_check L size e).broken ≡ false)
               (λ (e : EndpointView). IsTrue (is_there L.endpoints e.number) × IsEndpoint e) into
@@ -171,7 +186,7 @@ module _ (L : Ledger) (s : IsSound L) where
               (takers_all L m (λ (e : EndpointView). IsTrue (is_there L.endpoints e.number) × IsEndpoint e)
               all_there)));
           apart = pairs_made (λ (a b : Share). (a.copy.endpoint == b.copy.endpoint) ≡ false)
-              (share_for L.next.message size) into (takers_apart L m s.endpoints.rise);
+              (share_for m L.next.message) into (takers_apart L m s.endpoints.rise);
         },
         tt,
       )
@@ -185,7 +200,7 @@ module _ (L : Ledger) (s : IsSound L) where
           (any_self {X = EndpointView} (λ d e. e.number == d.number) L.endpoints)) s.endpoints.each
 
       share_fits : (e : EndpointView) → (quota_check L (size_of m) e).broken ≡ false →
-          IsTrue (is_there L.endpoints e.number) → IsEndpoint e → IsShare L m (share_for L.next.message (size_of m) e)
+          IsTrue (is_there L.endpoints e.number) → IsEndpoint e → IsShare L m (share_for m L.next.message e)
       share_fits e fits there is = record {
         there = there;
         message = refl;
@@ -226,13 +241,24 @@ module _ (L : Ledger) (s : IsSound L) where
       one false = tt
 
   -- another topic, and then a flow, where the copies were closed
-  topic_and_flow : (e bound : EndpointView) (H : History) (f : FlowView) → MayBecome L bound → MayBind L f →
-      AreAllowed (new_topic e bound ++ binds f ∷ []) (record L { copies = H })
-  topic_and_flow e bound H f may bind = one (is_rebound e bound)
+  topic_and_flow : (e bound : EndpointView) (H : History) (f : FlowView) → MayBecome L bound →
+      All (λ d. (d.number == bound.number) ≡ true → shares_otherwise d.attributes bound.attributes ≡ false) L.endpoints →
+      MayBind L f → AreAllowed (rebinding e bound ++ binds f ∷ []) (record L { copies = H })
+  topic_and_flow e bound H f may alike bind = one (is_rebound e bound)
     where
       one : (b : Bool) → AreAllowed (cond b (becomes bound ∷ []) [] ++ binds f ∷ []) (record L { copies = H })
       one true = (
-        record { named = may.named; kind = may.kind; fits = may.fits },
+        record {
+          named = may.named;
+          kind = may.kind;
+          sharing = All-weaker (λ (d : EndpointView). (d.number == bound.number) ≡ true →
+              shares_otherwise d.attributes bound.attributes ≡ false)
+              (λ (d : EndpointView). (d.number == bound.number) ≡ true →
+              shares_otherwise d.attributes bound.attributes ≡ true → spooled_count H (Some bound.number) ≡ 0)
+              (λ d same is other. absurd (let alike = same is in let no_one : true ≡ false = sym other ∙ alike in cc))
+              L.endpoints alike;
+          fits = may.fits;
+        },
         (
           record {
             number = bind.number;
@@ -265,21 +291,23 @@ module _ (L : Ledger) (s : IsSound L) where
       let new : EndpointView = rebound e selector topic in
       let f : FlowView = new_flow L.next.flow caller e selector in
       let may = may_become L (λ x. bytes_eq x.name name) e new s.endpoints found refl refl refl
+      (λ other. absurd (let alike = shares_own e.attributes in let no_one : true ≡ false = sym other ∙ alike in cc))
       (record {
         ranges = old.ranges;
         subscriptions = old.subscriptions;
         suits = topic_suits e.kind selector topic e (not_false _ p.0) old.suits;
       }) in
       let gone = map (λ (c : MadeCopy). closes c.number (closings.Discarded TopicChanged)) (outdated L e new) in
-      let more = new_topic e new ++ binds f ∷ [] in
+      let more = rebinding e new ++ binds f ∷ [] in
       let there = any_found {X = EndpointView} (λ x. bytes_eq x.name name)
       (λ x. (x.number == e.number) && suits_flow x.kind f.selector) L.endpoints e found
       (and_both (e.number == e.number) _ (eq-eqb e.number e.number refl) (flow_suits e.kind selector)) in
-      subst (λ cs. AreAllowed cs L) (sym (append_assoc gone (new_topic e new) (binds f ∷ [])))
+      subst (λ cs. AreAllowed cs L) (sym (append_assoc gone (rebinding e new) (binds f ∷ [])))
       (allowed_append gone more L (outdated_allowed e new)
       (subst (AreAllowed more) (sym (closes_all (closings.Discarded TopicChanged) (outdated L e new) L))
       (topic_and_flow e new (all_changed gone L).copies f may
-      (record { number = refl; unspent = leb-false spent L.next.flow p.1.1.0; there = there; caller = short }))))))
+      (shares_no_other L (λ x. bytes_eq x.name name) e new s.endpoints found refl refl)
+      (record { number = refl; unspent = leb-false spent L.next.flow p.1.1.1.0; there = there; caller = short }))))))
     where
       on_endpoint : EndpointView → Step
       on_endpoint e =
@@ -288,10 +316,14 @@ module _ (L : Ledger) (s : IsSound L) where
             broken = is_rebound e (rebound e selector topic) && not (flow_count L.flows e.number == 0);
             refusal = InUse (flow_count L.flows e.number) (spooled_count L.copies (Some e.number));
           }
+          ∷ record {
+            broken = nat_le e.attributes.max_bind_count (flow_count L.flows e.number);
+            refusal = BindLimit (flow_count L.flows e.number) e.attributes.max_bind_count;
+          }
           ∷ is_spent L.next.flow kinds.Flow
           ∷ [])
           (map (λ c. closes c.number (closings.Discarded TopicChanged)) (outdated L e (rebound e selector topic))
-          ++ new_topic e (rebound e selector topic)
+          ++ rebinding e (rebound e selector topic)
           ++ binds (new_flow L.next.flow caller e selector)
           ∷ [])
           (replies.Bind e.name L.next.flow (length (outdated L e (rebound e selector topic))))
@@ -316,21 +348,51 @@ module _ (L : Ledger) (s : IsSound L) where
   pull_allowed : (caller : List ℕ) (flow count : ℕ) → All (λ a. a.count + 1 < L.next.unit) L.copies.attempts →
       OnPassed (Allowed L) (pull caller flow count L)
   pull_allowed caller flow count few =
-      passed_on_found {X = FlowView} (Allowed L) (UnknownFlow flow) _ (flow_of L.flows caller flow)
-      (λ f found p.
-      let p : FlowView → Bool = λ g. (g.number == flow) && bytes_eq g.caller caller in
-      hold_allowed flow (pulled L f count) L (pulled_free L f count) (pulled_rise L f count (kept_of L s).history)
-      (All-weaker (λ (c : MadeCopy). list_any (in_endpoint L.copies f.endpoint L.now c) L.copies.made ≡ true)
-      (λ (c : MadeCopy). IsTrue (is_bound_for L.flows L.copies.made (record { copy = c.number; flow = flow })))
-      (λ c here.
-      any_found {X = FlowView} p
-      (λ g. (g.number == flow) && list_any
-      (λ (d : MadeCopy). (d.number == c.number) && (d.endpoint == g.endpoint)) L.copies.made) L.flows f found
-      (and_both (f.number == flow) _ (and_left (f.number == flow) _ (find_passes p L.flows f found)) here))
-      (pulled L f count) (pulled_in L f count))
-      (All-weaker (λ (a : CopyAttempts). a.count + 1 < L.next.unit)
-      (λ (a : CopyAttempts). list_any (λ (c : MadeCopy). c.number == a.copy) (pulled L f count) ≡ true →
-      a.count + 1 < L.next.unit) (λ a lt among. lt) L.copies.attempts few))
+      passed_on_found {X = FlowView} (Allowed L) (UnknownFlow flow)
+      (λ f. on_found (numbered f.endpoint L.endpoints) (UnknownFlow flow) on_endpoint) (flow_of L.flows caller flow)
+      (λ f found.
+      passed_on_found {X = EndpointView} (Allowed L) (UnknownFlow flow) on_endpoint (numbered f.endpoint L.endpoints)
+      (λ e there p. hands_out f e found there))
+    where
+      on_endpoint : EndpointView → Step
+      on_endpoint e =
+          does [] (map (λ c. holds c.number flow) (pulled L e flow count))
+          (replies.Pull flow (deliveries L (pulled L e flow count)))
+
+      own : FlowView → Bool
+      own g = (g.number == flow) && bytes_eq g.caller caller
+
+      hands_out : (f : FlowView) (e : EndpointView) → flow_of L.flows caller flow ≡ Some f →
+          numbered f.endpoint L.endpoints ≡ Some e → AreAllowed (map (λ c. holds c.number flow) (pulled L e flow count)) L
+      hands_out f e found there =
+          let number : f.number ≡ flow = eqb-true _ _ (and_left (f.number == flow) _ (find_passes own L.flows f found)) in
+          let endpoint : e.number ≡ f.endpoint =
+          eqb-true _ _ (find_passes (λ (x : EndpointView). x.number == f.endpoint) L.endpoints e there) in
+          let bound : flow_numbered L.flows f.number ≡ Some f = found_by_key {X = FlowView} (λ g. g.number) own L.flows f s.flows.rise found in
+          hold_allowed flow (pulled L e flow count) L (pulled_free L e flow count)
+          (pulled_rise L e flow count (kept_of L s).history)
+          (All-weaker (λ (c : MadeCopy). list_any (in_endpoint L.copies e.number L.now c) L.copies.made ≡ true)
+          (λ (c : MadeCopy). IsTrue (is_bound_for L.flows L.copies.made (record { copy = c.number; flow = flow })))
+          (λ c here.
+          any_found {X = FlowView} own
+          (λ g. (g.number == flow) && list_any
+          (λ (d : MadeCopy). (d.number == c.number) && (d.endpoint == g.endpoint)) L.copies.made) L.flows f found
+          (and_both (f.number == flow) _ (eq-eqb _ _ number)
+          (subst (λ n. list_any (λ (d : MadeCopy). (d.number == c.number) && (d.endpoint == n)) L.copies.made ≡ true)
+          endpoint here)))
+          (pulled L e flow count) (pulled_in L e flow count))
+          (All-weaker (λ (a : CopyAttempts). a.count + 1 < L.next.unit)
+          (λ (a : CopyAttempts). list_any (λ (c : MadeCopy). c.number == a.copy) (pulled L e flow count) ≡ true →
+          a.count + 1 < L.next.unit) (λ a lt among. lt) L.copies.attempts few)
+          (All-weaker (λ (c : MadeCopy). (OwnKey c × (c.endpoint ≡ e.number)) × (can_take L e flow c ≡ true))
+          (λ (c : MadeCopy). All (HasTurn L (record { copy = c.number; flow = flow })) L.endpoints)
+          (λ c all. subst (λ n. All (HasTurn L (record { copy = c.number; flow = n })) L.endpoints) number
+          (turn_taken L s f e bound there c (subst (λ n. can_take L e n c ≡ true) (sym number) all.1) all.0.1 all.0.0))
+          (pulled L e flow count)
+          (All-both (λ (c : MadeCopy). OwnKey c × (c.endpoint ≡ e.number)) (λ (c : MadeCopy). can_take L e flow c ≡ true)
+          (pulled L e flow count)
+          (pulled_made L e flow count OwnKey (own_key {X = MadeCopy} (λ c. c.number) L.copies.made s.one.numbered.rise))
+          (pulled_taken L e flow count)))
 
   -- a held copy is spooled
   pub held_is_spooled : (flow copy : ℕ) → is_held_by L.copies.held flow copy ≡ true → is_spooled L.copies copy ≡ true

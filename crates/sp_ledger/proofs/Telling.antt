@@ -11,7 +11,7 @@ use Rattle.sp_copies.specs.declared.closed.Fate.{Fate}
 use Rattle.sp_copies.specs.declared.closed.Fate.TheVariants as fates
 use Rattle.sp_copies.specs.declared.made.MadeCopy.{MadeCopy}
 use Rattle.sp_endpoint.specs.Endpoint.{EndpointView}
-use Rattle.sp_endpoint.specs.Endpoints.{named, queue_named}
+use Rattle.sp_endpoint.specs.Endpoints.{named, queue_named, numbered as endpoint_numbered}
 use Rattle.sp_endpoint.specs.Takers.{takers}
 use Rattle.sp_event.specs.declared.answer.CopyFate.{CopyFate}
 use Rattle.sp_event.specs.declared.answer.Delivery.{Delivery}
@@ -39,9 +39,8 @@ use Rattle.sp_ledger.specs.Limits.{spent}
 use Rattle.sp_ledger.specs.OnFlows.{bind, delivered, deliveries, outdated, pull, pulled, rebound, settle, topic_check}
 use Rattle.sp_ledger.specs.Publish.{publish, share_for, told_copies}
 use Rattle.sp_ledger.specs.Sound.{IsSound}
-use Rattle.sp_ledger.specs.Step.{Check, accepted, begun, does, idle, on_found}
+use Rattle.sp_ledger.specs.Step.{Check, Step, accepted, begun, does, idle, on_found}
 use Rattle.sp_ledger.specs.Told.{FateHolds, IsTold, TellsFates, told_fates}
-use Rattle.sp_message.specs.Size.{size_of}
 use Rattle.sp_message.specs.declared.message.Message.{Message}
 use Rattle.std.proofs.Common.{ap, arith, refl, subst, sym, ◌∙◌}
 use Rattle.std.proofs.lemmas.Bool.{eq-eqb}
@@ -130,20 +129,20 @@ is_accepted_so made closed copy moment is_here open_here =
     ∙ ap (λ n. told_closing n (Some closings.Accepted)) (none_after closed x open_here))
 
 -- the copies of a message are made, under the next number and later ones
-shares_made : (moment message size : ℕ) (es : List EndpointView) (L : Ledger) →
-    All (λ t. is_made (all_shared moment (map (share_for message size) es) L.copies).made t.copy ≡ true)
+shares_made : (moment : ℕ) (m : Message) (message : ℕ) (es : List EndpointView) (L : Ledger) →
+    All (λ t. is_made (all_shared moment (map (share_for m message) es) L.copies).made t.copy ≡ true)
     (told_copies L.copies.next es)
-shares_made moment message size [] L = All-nil (λ (t : PublishedCopy). is_made L.copies.made t.copy ≡ true)
-shares_made moment message size (e ∷ es) L =
-    let c = (share_for message size e).copy in
+shares_made moment m message [] L = All-nil (λ (t : PublishedCopy). is_made L.copies.made t.copy ≡ true)
+shares_made moment m message (e ∷ es) L =
+    let c = (share_for m message e).copy in
     let K : Ledger = record L { copies = with_made c L.copies } in
-    let shares = map (share_for message size) es in
+    let shares = map (share_for m message) es in
     All-cons (λ (t : PublishedCopy). is_made (all_shared moment shares K.copies).made t.copy ≡ true) _
     (told_copies (L.copies.next + 1) es)
     (still_made K (record K { copies = all_shared moment shares K.copies }) (shares_extend moment shares K)
     L.copies.next (any_last {X = MadeCopy} (λ d. d.number == L.copies.next) L.copies.made
     (numbered L.copies.next c) (eq-eqb L.copies.next L.copies.next refl)))
-    (shares_made moment message size es K)
+    (shares_made moment m message es K)
 
 told_later : (least number : ℕ) → least ≤ number → (es : List EndpointView) →
     All (λ t. least ≤ t.copy) (told_copies number es)
@@ -152,11 +151,11 @@ told_later least number le (e ∷ es) =
     All-cons (λ (t : PublishedCopy). least ≤ t.copy) _ (told_copies (number + 1) es) le
     (told_later least (number + 1) (omega (arith, le)) es)
 
-shares_close_none : (moment message size : ℕ) (es : List EndpointView) (H : History) →
-    (all_shared moment (map (share_for message size) es) H).closed ≡ H.closed
-shares_close_none moment message size [] H = refl
-shares_close_none moment message size (e ∷ es) H =
-    shares_close_none moment message size es (with_made (share_for message size e).copy H)
+shares_close_none : (moment : ℕ) (m : Message) (message : ℕ) (es : List EndpointView) (H : History) →
+    (all_shared moment (map (share_for m message) es) H).closed ≡ H.closed
+shares_close_none moment m message [] H = refl
+shares_close_none moment m message (e ∷ es) H =
+    shares_close_none moment m message es (with_made (share_for m message e).copy H)
 
 -- what is handed out stays made, and is not closed
 holds_make_none : (flow : ℕ) (cs : List MadeCopy) (K : Ledger) →
@@ -169,12 +168,12 @@ holds_close_none : (flow : ℕ) (cs : List MadeCopy) (K : Ledger) →
 holds_close_none flow [] K = refl
 holds_close_none flow (c ∷ cs) K = holds_close_none flow cs (changed (holds c.number flow) K)
 
-pulled_spooled : (L : Ledger) (f : FlowView) (count : ℕ) →
-    All (λ c. is_spooled L.copies c.number ≡ true) (pulled L f count)
-pulled_spooled L f count =
+pulled_spooled : (L : Ledger) (e : EndpointView) (flow count : ℕ) →
+    All (λ c. is_spooled L.copies c.number ≡ true) (pulled L e flow count)
+pulled_spooled L e flow count =
     All-weaker (λ (c : MadeCopy). is_free L.copies c.number ≡ true)
     (λ (c : MadeCopy). is_spooled L.copies c.number ≡ true)
-    (λ c unheld. and_left (is_spooled L.copies c.number) _ unheld) (pulled L f count) (pulled_free L f count)
+    (λ c unheld. and_left (is_spooled L.copies c.number) _ unheld) (pulled L e flow count) (pulled_free L e flow count)
 
 module _ (L : Ledger) (s : IsSound L) where
   abbrev Tells : List Change → Reply → Type 0
@@ -195,20 +194,19 @@ module _ (L : Ledger) (s : IsSound L) where
   publish_tells : (m : Message) → OnPassed Tells (publish m L)
   publish_tells m p =
       let into = takers L.endpoints m in
-      let size = size_of m in
-      let after = all_shared L.now (map (share_for L.next.message size) into) L.copies in
+      let after = all_shared L.now (map (share_for m L.next.message) into) L.copies in
       All-map (λ (t : CopyFate). fate_of after t.copy ≡ t.fate)
       (λ (c : PublishedCopy). record { copy = c.copy; fate = c.fate }) (told_copies L.copies.next into)
       (spooled (λ copy. (is_made after.made copy ≡ true) × (L.copies.next ≤ copy))
       (λ copy fate. fate_of after copy ≡ fate)
       (λ copy h. is_spooled_so after.made after.closed copy h.0
       (subst (λ closed. is_closed closed copy ≡ false)
-      (sym (shares_close_none L.now L.next.message size into L.copies))
+      (sym (shares_close_none L.now m L.next.message into L.copies))
       (later_open L.copies (kept_of L s).history copy h.1)))
       into L.copies.next
       (All-both (λ (t : PublishedCopy). is_made after.made t.copy ≡ true)
       (λ (t : PublishedCopy). L.copies.next ≤ t.copy) (told_copies L.copies.next into)
-      (shares_made L.now L.next.message size into L) (told_later L.copies.next L.copies.next (omega arith) into)))
+      (shares_made L.now m L.next.message into L) (told_later L.copies.next L.copies.next (omega arith) into)))
     where
       spooled : (P : ℕ → Type 0) (Q : ℕ → Fate → Type 0) → ((copy : ℕ) → P copy → Q copy fates.Spooled) →
           (es : List EndpointView) (number : ℕ) → All (λ t. P t.copy) (told_copies number es) →
@@ -222,21 +220,29 @@ module _ (L : Ledger) (s : IsSound L) where
 
   pull_tells : (caller : List ℕ) (flow count : ℕ) → OnPassed Tells (pull caller flow count L)
   pull_tells caller flow count =
-      passed_on_found {X = FlowView} Tells (UnknownFlow flow) _ (flow_of L.flows caller flow)
-      (λ f found p.
-      let changes = map (λ (c : MadeCopy). holds c.number flow) (pulled L f count) in
+      passed_on_found {X = FlowView} Tells (UnknownFlow flow)
+      (λ f. on_found (endpoint_numbered f.endpoint L.endpoints) (UnknownFlow flow) on_endpoint) (flow_of L.flows caller flow)
+      (λ f found.
+      passed_on_found {X = EndpointView} Tells (UnknownFlow flow) on_endpoint (endpoint_numbered f.endpoint L.endpoints)
+      (λ e there p.
+      let changes = map (λ (c : MadeCopy). holds c.number flow) (pulled L e flow count) in
       let after = all_changed changes L in
       All-map (λ (t : CopyFate). fate_of after.copies t.copy ≡ t.fate)
-      (λ (d : Delivery). record { copy = d.copy; fate = fates.Spooled }) (deliveries L (pulled L f count))
+      (λ (d : Delivery). record { copy = d.copy; fate = fates.Spooled }) (deliveries L (pulled L e flow count))
       (All-weaker (λ (d : Delivery). is_spooled L.copies d.copy ≡ true)
       (λ (d : Delivery). fate_of after.copies d.copy ≡ fates.Spooled) (λ d spooled.
       is_spooled_so after.copies.made after.copies.closed d.copy
-      (subst (λ made. is_made made d.copy ≡ true) (sym (holds_make_none flow (pulled L f count) L))
+      (subst (λ made. is_made made d.copy ≡ true) (sym (holds_make_none flow (pulled L e flow count) L))
       (and_left (is_made L.copies.made d.copy) _ spooled))
-      (subst (λ closed. is_closed closed d.copy ≡ false) (sym (holds_close_none flow (pulled L f count) L))
+      (subst (λ closed. is_closed closed d.copy ≡ false) (sym (holds_close_none flow (pulled L e flow count) L))
       (not_true (is_closed L.copies.closed d.copy) (and_right (is_made L.copies.made d.copy) _ spooled))))
-      (deliveries L (pulled L f count))
-      (delivered_all (λ copy. is_spooled L.copies copy ≡ true) L (pulled L f count) (pulled_spooled L f count))))
+      (deliveries L (pulled L e flow count))
+      (delivered_all (λ copy. is_spooled L.copies copy ≡ true) L (pulled L e flow count) (pulled_spooled L e flow count)))))
+    where
+      on_endpoint : EndpointView → Step
+      on_endpoint e =
+          does [] (map (λ c. holds c.number flow) (pulled L e flow count))
+          (replies.Pull flow (deliveries L (pulled L e flow count)))
 
   settle_tells : (caller : List ℕ) (flow copy : ℕ) (outcome : settling.Outcome) →
       OnPassed Tells (settle caller flow copy outcome L)

@@ -1,9 +1,12 @@
 -- Where each kind of change may be made: there it keeps a ledger sound.
+use Rattle.sp_access.specs.Activity.{flows_of, is_first}
 use Rattle.sp_access.specs.Flows.{flow_count, is_bound}
 use Rattle.sp_access.specs.Flow.{FlowView}
 use Rattle.sp_base.specs.Name.{is_caller}
+use Rattle.sp_config.specs.Attributes.{is_exclusive, is_partitioned}
 use Rattle.sp_copies.specs.Counts.{is_moved, spooled_count}
 use Rattle.sp_copies.specs.History.{is_free, is_held, is_spooled, numbered, used_bytes}
+use Rattle.sp_copies.specs.declared.held.HeldCopy.{HeldCopy}
 use Rattle.sp_copies.specs.declared.made.NewCopy.{NewCopy}
 use Rattle.sp_copies.specs.declared.made.Origin.TheVariants.{Published, Moved}
 use Rattle.sp_endpoint.specs.Endpoint.{EndpointView}
@@ -12,9 +15,11 @@ use Rattle.sp_ledger.specs.Changes.{Change, Share, becomes, binds, changed, clos
 use Rattle.sp_ledger.specs.Changes.{holds, logs, moves, publishes, repeats, starts, unbinds}
 use Rattle.sp_ledger.specs.Ledger.{Ledger, Replay}
 use Rattle.sp_ledger.specs.Limits.{greatest_quota, last_copy, most_endpoints, spent}
+use Rattle.sp_ledger.specs.OnEndpoints.{shares_otherwise}
 use Rattle.sp_ledger.specs.One.{is_bound_for, is_by_move, is_of_message}
 use Rattle.sp_ledger.specs.Sound.{AreLogged, IsEndpoint, has_endpoint, has_message}
 use Rattle.sp_ledger.specs.Step.{Step, does, lacks}
+use Rattle.sp_ledger.specs.Turns.{is_in, is_in_partition}
 use Rattle.sp_message.specs.Size.{size_of}
 use Rattle.sp_message.specs.declared.message.Message.{Message}
 use Rattle.std.specs.Prelude.{All, AllPairs, IsTrue, List, None, Some, [], bytes_eq, false, length, true, ℕ, ⊤, ◌+◌}
@@ -28,10 +33,14 @@ pub record MayCome (L : Ledger) (e : EndpointView) : Type 0 where
   pub place : length L.endpoints < most_endpoints
   pub fits : IsEndpoint e
 
--- an endpoint of the same name and kind as the one in whose place it stands
+-- an endpoint of the same name and kind as the one in whose place it stands; where it shares its copies otherwise, none is
+-- spooled there
 pub record MayBecome (L : Ledger) (e : EndpointView) : Type 0 where
   pub named : All (λ d. (d.number == e.number) ≡ true → d.name ≡ e.name) L.endpoints
   pub kind : All (λ d. (d.number == e.number) ≡ true → d.kind ≡ e.kind) L.endpoints
+  pub sharing :
+      All (λ d. (d.number == e.number) ≡ true → shares_otherwise d.attributes e.attributes ≡ true →
+      spooled_count L.copies (Some e.number) ≡ 0) L.endpoints
   pub fits : IsEndpoint e
 
 -- more bytes than any message has
@@ -54,11 +63,23 @@ pub record MayPublish (L : Ledger) (m : Message) (shares : List Share) : Type 0 
   pub each : All (IsShare L m) shares
   pub apart : AllPairs (λ s t. (s.copy.endpoint == t.copy.endpoint) ≡ false) shares
 
--- a free copy of the flow's endpoint, which was handed out fewer times than there are units
+-- where the held copy is one of the endpoint's: its flow is the first there, if that is exclusive; and if that is
+-- partitioned, no other flow holds a copy of its partition
+pub record HasTurn (L : Ledger) (h : HeldCopy) (e : EndpointView) : Type 0 where
+  pub first :
+      is_exclusive e.attributes.access_type ≡ true → is_in L.copies.made e.number h ≡ true →
+      is_first (flows_of L.flows e.number) h.flow ≡ true
+  pub alone :
+      is_partitioned e.attributes ≡ true → (partition : ℕ) →
+      is_in_partition L.copies.made e.number partition h ≡ true →
+      All (λ g. is_in_partition L.copies.made e.number partition g ≡ true → g.flow ≡ h.flow) L.copies.held
+
+-- a free copy of the flow's endpoint, which was handed out fewer times than there are units, where it is the flow's turn
 pub record MayHold (L : Ledger) (copy flow : ℕ) : Type 0 where
   pub free : is_free L.copies copy ≡ true
   pub bound : IsTrue (is_bound_for L.flows L.copies.made (record { copy = copy; flow = flow }))
   pub attempts : All (λ a. (a.copy == copy) ≡ true → a.count + 1 < L.next.unit) L.copies.attempts
+  pub turn : All (HasTurn L (record { copy = copy; flow = flow })) L.endpoints
 
 -- a flow of an endpoint that is there, under the next number
 pub record MayBind (L : Ledger) (f : FlowView) : Type 0 where

@@ -15,5 +15,7 @@ pub mod One
 pub mod Sound
 pub mod Rising
 pub mod Told
+pub mod Turns
+pub mod Order
 -- What only the proofs need: where each kind of change may be made.
 pub mod Allowed

@@ -9,10 +9,6 @@ most_endpoints = 1000
 abbrev pub most_subscriptions : ℕ
 most_subscriptions = 100
 
--- how many copies a flow may hold
-abbrev pub window : ℕ
-window = 1000
-
 -- the first number of a kind that isn't drawn any more
 abbrev pub spent : ℕ
 spent = 2 ^ 62

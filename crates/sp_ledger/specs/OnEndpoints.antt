@@ -4,10 +4,8 @@ use Rattle.sp_base.specs.declared.refusal.Kind.TheVariants as kinds
 use Rattle.sp_base.specs.declared.refusal.Refusal.TheVariants.{BadAttribute, EndpointExists, EndpointLimit, InUse}
 use Rattle.sp_base.specs.declared.refusal.Refusal.TheVariants.{SubscriptionExists, SubscriptionLimit, UnknownEndpoint}
 use Rattle.sp_base.specs.declared.refusal.Refusal.TheVariants.{UnknownSubscription}
-use Rattle.sp_config.specs.Attributes.{AttributesView}
+use Rattle.sp_config.specs.Attributes.{AttributesView, is_exclusive}
 use Rattle.sp_config.specs.Settings.{bad_attribute, with_settings}
-use Rattle.sp_config.specs.declared.access_type.AccessType.{AccessType}
-use Rattle.sp_config.specs.declared.access_type.AccessType.TheVariants.{Exclusive, NonExclusive}
 use Rattle.sp_config.specs.declared.kind.EndpointKind.{EndpointKind}
 use Rattle.sp_config.specs.declared.setting.Setting.{Setting}
 use Rattle.sp_copies.specs.Counts.{spooled_count}
@@ -19,7 +17,7 @@ use Rattle.sp_ledger.specs.Ledger.{Ledger}
 use Rattle.sp_ledger.specs.Limits.{most_endpoints, most_subscriptions}
 use Rattle.sp_ledger.specs.Step.{Check, Step, does, is_spent, on_found, rule}
 use Rattle.sp_topic.specs.Subscriptions.{has_text}
-use Rattle.std.specs.Prelude.{Bool, List, Some, [], bytes_eq, false, filter, if◌then◌else◌, is_some, length}
+use Rattle.std.specs.Prelude.{Bool, List, Some, [], bytes_eq, filter, if◌then◌else◌, is_some, length}
 use Rattle.std.specs.Prelude.{nat_le, not, true, unwrap_or, ℕ, ◌&&◌, ◌++◌, ◌==◌, ◌||◌, ◌∷◌}
 
 -- an endpoint of the kind may have each value; the first that it may not have is told
@@ -53,11 +51,6 @@ deprovision name L =
     does (use_check L e true ∷ [])
     (goes e.number ∷ [])
     (replies.Deprovision e.name))
-
--- whether one flow at a time is handed out copies
-abbrev pub is_exclusive : AccessType → Bool
-is_exclusive Exclusive = true
-is_exclusive NonExclusive = false
 
 -- whether one is true and the other isn't
 abbrev pub differ : Bool → Bool → Bool

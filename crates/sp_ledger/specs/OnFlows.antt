@@ -1,32 +1,33 @@
 -- The steps of the events on flows.
+use Rattle.sp_access.specs.Activity.{may_take}
 use Rattle.sp_access.specs.Flows.{flow_count, flow_of}
 use Rattle.sp_access.specs.Flow.{FlowView}
 use Rattle.sp_base.specs.declared.refusal.Kind.TheVariants as kinds
-use Rattle.sp_base.specs.declared.refusal.Refusal.TheVariants.{BadSubscription, InUse, NotHeld, UnknownEndpoint}
-use Rattle.sp_base.specs.declared.refusal.Refusal.TheVariants.{UnknownFlow}
+use Rattle.sp_base.specs.declared.refusal.Refusal.TheVariants.{BadSubscription, BindLimit, InUse, NotHeld}
+use Rattle.sp_base.specs.declared.refusal.Refusal.TheVariants.{UnknownEndpoint, UnknownFlow}
+use Rattle.sp_config.specs.Attributes.{AttributesView}
 use Rattle.sp_config.specs.declared.kind.EndpointKind.{EndpointKind}
 use Rattle.sp_config.specs.declared.kind.EndpointKind.TheVariants.{Queue, TopicEndpoint}
 use Rattle.sp_copies.specs.Counts.{spooled_count}
-use Rattle.sp_copies.specs.History.{attempts_of, held_by, is_held_by, open_copies, waiting_copies}
+use Rattle.sp_copies.specs.History.{attempts_of, held_by, holder_in, is_held_by, open_copies}
+use Rattle.sp_copies.specs.History.{waiting_copies}
 use Rattle.sp_copies.specs.declared.closed.Cause.TheVariants.{TopicChanged}
 use Rattle.sp_copies.specs.declared.closed.Closing.TheVariants as closings
 use Rattle.sp_copies.specs.declared.closed.Closing.TheVariants.{Discarded}
 use Rattle.sp_copies.specs.declared.closed.Fate.TheVariants as fates
 use Rattle.sp_copies.specs.declared.made.MadeCopy.{MadeCopy}
 use Rattle.sp_endpoint.specs.Endpoint.{EndpointView}
-use Rattle.sp_endpoint.specs.Endpoints.{named}
+use Rattle.sp_endpoint.specs.Endpoints.{named, numbered}
 use Rattle.sp_event.specs.declared.answer.Delivery.{Delivery}
 use Rattle.sp_event.specs.declared.answer.Reply.TheVariants as replies
 use Rattle.sp_event.specs.declared.request.Outcome as settling
 use Rattle.sp_event.specs.declared.request.Outcome.TheVariants.{Accepted}
 use Rattle.sp_ledger.specs.Changes.{Change, becomes, binds, closes, frees, holds, unbinds}
 use Rattle.sp_ledger.specs.Ledger.{Ledger, Published, message_of}
-use Rattle.sp_ledger.specs.Limits.{window}
 use Rattle.sp_ledger.specs.Step.{Check, Step, does, is_spent, on_found, rule, unless}
-use Rattle.sp_selector.specs.Takes.{passes}
 use Rattle.sp_topic.specs.Subscription.{is_exception}
 use Rattle.std.specs.Prelude.{Bool, List, None, Option, Some, [], bytes_eq, false, filter, filter_map, if◌then◌else◌, is_none}
-use Rattle.std.specs.Prelude.{is_some, length, map, min, not, option_map, take, true, unwrap_or, ℕ, ◌&&◌, ◌++◌, ◌+◌}
+use Rattle.std.specs.Prelude.{is_some, length, map, min, nat_le, not, option_map, take, true, unwrap_or, ℕ, ◌&&◌, ◌++◌, ◌+◌}
 use Rattle.std.specs.Prelude.{◌-◌, ◌==◌, ◌||◌, ◌∷◌}
 
 -- a topic that an endpoint is bound with is no exception
@@ -67,13 +68,13 @@ abbrev pub outdated : Ledger → EndpointView → EndpointView → List MadeCopy
 outdated L e bound = if is_rebound e bound then open_copies L.copies e.number else []
 
 -- another topic or selector becomes the endpoint's
-abbrev pub new_topic : EndpointView → EndpointView → List Change
-new_topic e bound = if is_rebound e bound then becomes bound ∷ [] else []
+abbrev pub rebinding : EndpointView → EndpointView → List Change
+rebinding e bound = if is_rebound e bound then becomes bound ∷ [] else []
 
 -- what they change: what came by the old ones is discarded, and the new ones are the endpoint's
-abbrev pub topic_changes : Ledger → EndpointView → EndpointView → List Change
-topic_changes L e bound =
-    map (λ c. closes c.number (Discarded TopicChanged)) (outdated L e bound) ++ new_topic e bound
+abbrev pub rebind_changes : Ledger → EndpointView → EndpointView → List Change
+rebind_changes L e bound =
+    map (λ c. closes c.number (Discarded TopicChanged)) (outdated L e bound) ++ rebinding e bound
 
 -- a flow of a caller that is bound to an endpoint with a selector
 abbrev pub new_flow : ℕ → List ℕ → EndpointView → Option (List ℕ) → FlowView
@@ -93,9 +94,10 @@ bind caller name selector topic L =
     let flows = flow_count L.flows e.number in
     does (rule (not (fits_kind e.kind topic)) (BadSubscription 0)
     ∷ rule (is_rebound e bound && not (flows == 0)) (InUse flows (spooled_count L.copies (Some e.number)))
+    ∷ rule (nat_le e.attributes.max_bind_count flows) (BindLimit flows e.attributes.max_bind_count)
     ∷ is_spent L.next.flow kinds.Flow
     ∷ [])
-    (topic_changes L e bound ++ binds (new_flow L.next.flow caller e selector) ∷ [])
+    (rebind_changes L e bound ++ binds (new_flow L.next.flow caller e selector) ∷ [])
     (replies.Bind e.name L.next.flow (length (outdated L e bound)))))
 
 -- what a flow of the caller holds is spooled again, in order of number, and the flow goes
@@ -106,23 +108,27 @@ unbind caller flow L =
     (map frees (held_by L.copies flow) ++ unbinds flow ∷ [])
     (replies.Unbind flow [] (length (held_by L.copies flow))))
 
--- whether a message that was published passes a selector
-abbrev pub is_taken : Option (List ℕ) → Option Published → Bool
-is_taken selector None = false
-is_taken selector (Some m) = passes selector m.message.properties
+-- whether a flow may take a copy of an endpoint with these attributes, by the copy's message and its partition's holder
+abbrev pub is_taken : List FlowView → ℕ → AttributesView → ℕ → Option ℕ → Option Published → Bool
+is_taken flows flow a partition holder None = false
+is_taken flows flow a partition holder (Some m) = may_take flows flow a partition holder m.message
 
--- whether a copy's message passes a flow's selector
-abbrev pub may_take : Ledger → FlowView → MadeCopy → Bool
-may_take L f c = is_taken f.selector (message_of L.messages c.message)
+-- the same of a copy as it is in the ledger
+abbrev pub can_take : Ledger → EndpointView → ℕ → MadeCopy → Bool
+can_take L e flow c =
+    is_taken L.flows flow e.attributes c.partition (holder_in L.copies e.number c.partition)
+    (message_of L.messages c.message)
 
--- what a flow may take: the spooled copies of its endpoint that no flow holds, whose deadline hasn't come, and whose
--- message passes its selector
-abbrev pub reach : Ledger → FlowView → List MadeCopy
-reach L f = filter (may_take L f) (waiting_copies L.copies f.endpoint L.now)
+-- what a flow of an endpoint can reach: the spooled copies that no flow holds, whose deadline hasn't come, and which it
+-- may take, in order of number
+abbrev pub reach : Ledger → EndpointView → ℕ → List MadeCopy
+reach L e flow = filter (can_take L e flow) (waiting_copies L.copies e.number L.now)
 
 -- the first of them: as many as are asked for, and as the window leaves
-abbrev pub pulled : Ledger → FlowView → ℕ → List MadeCopy
-pulled L f count = take (min count (window - length (held_by L.copies f.number))) (reach L f)
+abbrev pub pulled : Ledger → EndpointView → ℕ → ℕ → List MadeCopy
+pulled L e flow count =
+    take (min count (e.attributes.max_delivered_unacked_msgs_per_flow - length (held_by L.copies flow)))
+    (reach L e flow)
 
 -- a copy with its message, handed out once more
 abbrev pub delivered : Ledger → MadeCopy → Published → Delivery
@@ -139,13 +145,14 @@ delivered L c m = record {
 abbrev pub deliveries : Ledger → List MadeCopy → List Delivery
 deliveries L copies = filter_map (λ c. option_map (delivered L c) (message_of L.messages c.message)) copies
 
--- a flow of the caller is handed out copies, and holds them
+-- a flow of the caller is handed out copies of its endpoint, and holds them
 abbrev pub pull : List ℕ → ℕ → ℕ → Ledger → Step
 pull caller flow count L =
     on_found (flow_of L.flows caller flow) (UnknownFlow flow) (λ f.
+    on_found (numbered f.endpoint L.endpoints) (UnknownFlow flow) (λ e.
     does []
-    (map (λ c. holds c.number flow) (pulled L f count))
-    (replies.Pull flow (deliveries L (pulled L f count))))
+    (map (λ c. holds c.number flow) (pulled L e flow count))
+    (replies.Pull flow (deliveries L (pulled L e flow count)))))
 
 -- a flow of the caller settles a copy that it holds: an accepted one is closed for good
 abbrev pub settle : List ℕ → ℕ → ℕ → settling.Outcome → Ledger → Step

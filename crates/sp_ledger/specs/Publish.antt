@@ -1,7 +1,7 @@
 -- The step of a publish.
 use Rattle.sp_base.specs.declared.refusal.Kind.TheVariants as kinds
 use Rattle.sp_base.specs.declared.refusal.Refusal.TheVariants.{QuotaExceeded, UnknownEndpoint}
-use Rattle.sp_config.specs.Attributes.{quota_of}
+use Rattle.sp_config.specs.Attributes.{AttributesView, is_partitioned, quota_of}
 use Rattle.sp_copies.specs.History.{used_bytes}
 use Rattle.sp_copies.specs.declared.closed.Fate.TheVariants as fates
 use Rattle.sp_copies.specs.declared.made.Origin.TheVariants.{Published}
@@ -13,11 +13,12 @@ use Rattle.sp_event.specs.declared.answer.Reply.TheVariants as replies
 use Rattle.sp_ledger.specs.Changes.{Share, publishes}
 use Rattle.sp_ledger.specs.Ledger.{Ledger}
 use Rattle.sp_ledger.specs.Step.{Check, Step, does, is_copy_spent, is_spent, rule}
+use Rattle.sp_message.specs.Partition.{partition_of}
 use Rattle.sp_message.specs.Size.{dest_bytes, size_of}
 use Rattle.sp_message.specs.declared.message.Dest.{Dest}
 use Rattle.sp_message.specs.declared.message.Dest.TheVariants.{Topic, Queue}
 use Rattle.sp_message.specs.declared.message.Message.{Message}
-use Rattle.std.specs.Prelude.{Bool, List, None, [], false, is_none, length, map, nat_lt, true, ℕ, ◌++◌, ◌+◌, ◌∷◌}
+use Rattle.std.specs.Prelude.{Bool, List, None, [], false, if◌then◌else◌, is_none, length, map, nat_lt, true, ℕ, ◌++◌, ◌+◌, ◌∷◌}
 
 -- a message is sent to a queue that isn't there; a topic that no endpoint takes is no fault
 abbrev pub lacks_queue : Dest → List EndpointView → Bool
@@ -30,16 +31,20 @@ quota_check L size e =
     let used = used_bytes L.copies e.number in
     rule (nat_lt (quota_of e.attributes) (used + size)) (QuotaExceeded e.name used size (quota_of e.attributes))
 
--- the copy of a message for an endpoint, which is spooled
-abbrev pub share_for : ℕ → ℕ → EndpointView → Share
-share_for message size e = record {
+-- the partition that a message of this number belongs to: only a partitioned queue has several
+abbrev pub partition_for : Message → ℕ → AttributesView → ℕ
+partition_for m number a = if is_partitioned a then partition_of m number a.partition_count else 0
+
+-- the copy of a message of this number for an endpoint, which is spooled
+abbrev pub share_for : Message → ℕ → EndpointView → Share
+share_for m number e = record {
   copy = record {
     endpoint = e.number;
-    message = message;
-    size = size;
+    message = number;
+    size = size_of m;
     origin = Published;
     deadline = None;
-    partition = 0;
+    partition = partition_for m number e.attributes;
   };
   is_spooled = true;
 }
@@ -60,5 +65,5 @@ publish m L =
     ++ is_spent L.next.message kinds.Message
     ∷ is_copy_spent (L.copies.next + length into)
     ∷ [])
-    (publishes m (map (share_for L.next.message (size_of m)) into) ∷ [])
+    (publishes m (map (share_for m L.next.message) into) ∷ [])
     (replies.Publish L.next.message (told_copies L.copies.next into))

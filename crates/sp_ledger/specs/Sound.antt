@@ -11,6 +11,7 @@ use Rattle.sp_ledger.specs.Changes.{logged_size}
 use Rattle.sp_ledger.specs.Ledger.{Ledger, Log, Next, Published, Replay, message_of}
 use Rattle.sp_ledger.specs.Limits.{bytes_per_mb, greatest_quota, most_endpoints, most_subscriptions, spent}
 use Rattle.sp_ledger.specs.One.{IsOne, is_by_move}
+use Rattle.sp_ledger.specs.Turns.{IsInTurn}
 use Rattle.sp_message.specs.Size.{size_of}
 use Rattle.std.specs.List.{list_any, range_with_len}
 use Rattle.std.specs.Prelude.{All, AllPairs, Bool, IsTrue, List, Option, bytes_eq, count_by, false, is_none, is_some, length}
@@ -108,6 +109,7 @@ pub record IsSound (L : Ledger) : Type 0 where
   pub replays : AreReplays L.next.replay L.replays
   pub logged : AreLogged L.messages L.log
   pub next : AreNext L.next
+  pub turns : All (IsInTurn L.flows L.copies) L.endpoints
 
 -- what every ledger has between two units
 pub record IsLedger (L : Ledger) : Type 0 where

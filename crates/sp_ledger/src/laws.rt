@@ -1,6 +1,5 @@
 ghost use Rattle.std.specs.Prelude.{◌≡◌, ◌<◌, ◌≤◌, ◌+◌, ◌++◌, ◌∷◌, [], ℕ, true, max, IsTrue, List, map};
 ghost use Rattle.std.specs.Prelude.{Option, Some, All, AllPairs, Contains};
-ghost use Rattle.sp_access.specs.Flow.{FlowView};
 ghost use Rattle.sp_base.specs.Name.{is_caller};
 ghost use Rattle.sp_base.specs.Refusal.{number_of};
 ghost use Rattle.sp_base.specs.declared.refusal.Refusal.{Refusal};
@@ -20,6 +19,7 @@ ghost use Rattle.sp_ledger.specs.Events.{outcome, step};
 ghost use Rattle.sp_ledger.specs.Ledger.{Ledger, Next, empty_ledger};
 ghost use Rattle.sp_ledger.specs.Limits.{last_copy, spent};
 ghost use Rattle.sp_ledger.specs.OnFlows.{deliveries, is_rebound, pulled, rebound};
+ghost use Rattle.sp_ledger.specs.Order.{HandsOutInOrder};
 ghost use Rattle.sp_ledger.specs.Rising.{NeverFall, checks_of};
 ghost use Rattle.sp_ledger.specs.Sound.{AreNext, IsLedger, IsSound, IsWhole};
 ghost use Rattle.sp_ledger.specs.Step.{accepted, begun, idle, refused};
@@ -128,8 +128,17 @@ pub fn each_tally_is_balanced()
 
 /// A pull delivers each copy that it hands out, and no other.
 pub fn each_copy_handed_out_is_delivered()
-    ensures { (L : Ledger) → IsSound L → (f : FlowView) (count : ℕ) →
-        map (λ d. d.copy) (deliveries L (pulled L f count)) ≡ map (λ c. c.number) (pulled L f count) }
+    ensures { (L : Ledger) → IsSound L → (e : EndpointView) (flow count : ℕ) →
+        map (λ d. d.copy) (deliveries L (pulled L e flow count)) ≡ map (λ c. c.number) (pulled L e flow count) }
+{}
+
+/// Of two copies of one partition that a flow can reach, no pull hands out the later without the
+/// earlier.
+pub fn each_partition_is_handed_out_in_order()
+    ensures accepted { (L : Ledger) → IsLedger L → (moment : ℕ) (caller : List ℕ) (event : Event) (told : List Reply)
+        (M : Ledger) → outcome moment caller event L ≡ accepted M told → All (HandsOutInOrder (begun moment L)) told }
+    ensures idle { (L : Ledger) → IsLedger L → (moment : ℕ) (caller : List ℕ) (event : Event) (told : List Reply) →
+        outcome moment caller event L ≡ idle told → All (HandsOutInOrder (begun moment L)) told }
 {}
 
 /// A message goes once to each endpoint that takes it, and to no other: the takers' names rise,

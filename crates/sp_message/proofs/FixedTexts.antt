@@ -12,7 +12,7 @@ use Rattle.std.proofs.lemmas.Bool.Decides.{nat_tests}
 use Rattle.std.proofs.lemmas.Fmt.{decimal_nonempty, digits_decimal, digits_value-decimal}
 use Rattle.std.proofs.lemmas.Grind.{pow_more}
 use Rattle.std.proofs.lemmas.Str.Parse.{FoldsDigits, IsDigitsTest, IsNumeralModel, numerals_by_fold}
-use Rattle.sp_message.specs.Decimal.{decimal_part, fixed_of, fixed_text, is_digit, joined, millionths_of, number_of, places_of, unsigned_fixed_of, whole_of, whole_part, with_digit}
+use Rattle.sp_message.specs.Decimal.{decimal_part, fixed_of, fixed_text, has_minus, is_digit, joined, millionths_of, number_of, places_of, unsigned_fixed_of, whole_of, whole_part, with_digit}
 use Rattle.sp_message.proofs.Digits.{split_and, unit_positive}
 
 -- ---- the digits of a whole number
@@ -39,7 +39,8 @@ folds = record { empty = λ n. refl; more = λ n b ds h. refl }
 own : IsNumeralModel (λ ds. list_all is_digit ds ≡ true) (λ ds. fold with_digit 0 ds)
 own = numerals_by_fold (λ ds. list_all is_digit ds ≡ true) tells (λ n ds. fold with_digit n ds) folds
 
-whole_back : (n : ℕ) → n < 2 ^ 63 → whole_of (decimal n) ≡ Some n
+-- the text of a whole number is read as the number
+pub whole_back : (n : ℕ) → n < 2 ^ 63 → whole_of (decimal n) ≡ Some n
 whole_back n h =
     let wide : n < 2 ^ 64 = omega (arith, h) in
     let some : nat_le 1 (length (decimal n)) ≡ true = at_least (length (decimal n)) (decimal_nonempty n wide) in
@@ -52,6 +53,17 @@ whole_back n h =
 
     at_most : (k : ℕ) → k < 2 ^ 63 → nat_le k (2 ^ 63 - 1) ≡ true
     at_most k below = grind (arith, nat_tests)
+
+-- it has no minus
+pub plain_decimal : (n : ℕ) → n < 2 ^ 64 → has_minus (decimal n) ≡ false
+plain_decimal n h = first (decimal n) (decimal_nonempty n h) (digits_decimal own n h)
+  where
+    other : (c : ℕ) → is_digit c ≡ true → (c == 45) ≡ false
+    other c is = grind (arith, nat_tests)
+
+    first : (ds : List ℕ) → 0 < length ds → list_all is_digit ds ≡ true → (slice_index ds 0 == 45) ≡ false
+    first [] some all = absurd (omega arith)
+    first (b ∷ ds) some all = other b (split_and (is_digit b) (list_all is_digit ds) all).0
 
 -- ---- the places behind the point
 

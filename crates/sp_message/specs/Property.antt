@@ -1,5 +1,5 @@
 -- The properties of a message.
-use Rattle.std.specs.Prelude.{◌==◌, ◌&&◌, ◌||◌, ◌+◌, ℕ, Bool, true, List, [], ◌∷◌, length, find, bytes_eq, nat_le, Option}
+use Rattle.std.specs.Prelude.{◌==◌, ◌&&◌, ◌||◌, ◌+◌, ℕ, Bool, true, List, [], ◌∷◌, length, find, bytes_eq, nat_le, Option, Some, None, if◌then◌else◌}
 use Rattle.std.specs.Cmp.Lexicographic.{slice_cmp}
 use Rattle.std.specs.Ordering.{nat_cmp, is_lt}
 use Rattle.std.specs.Option.{option_map}
@@ -30,6 +30,10 @@ names_rise (p ∷ q ∷ ps) = comes_before p q && names_rise (q ∷ ps)
 -- at most 64 properties, in strictly rising order of their names
 abbrev pub are_properties : List Property → Bool
 are_properties ps = nat_le (length ps) 64 && list_all is_property ps && names_rise ps
+
+-- properties, unless they break these rules
+abbrev pub kept : List Property → Option (List Property)
+kept properties = if are_properties properties then Some properties else None
 
 -- the value of the property of this name
 abbrev pub value_under : List ℕ → List Property → Option Value

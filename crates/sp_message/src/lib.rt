@@ -4,6 +4,7 @@
 pub mod decimal;
 pub mod laws;
 pub mod message;
+pub mod partition;
 pub mod payload;
 pub mod property;
 #[cfg(test)]

@@ -1,9 +1,11 @@
 use crate::message::{Dest, LONGEST_TTL, Message, TimeToLive};
+use crate::partition::partition;
 use crate::payload::Payload;
 use crate::property::{Properties, Property};
 use crate::value::{Fixed, Value};
 use sp_base::bytes::Bytes;
 use sp_base::name::Name;
+use sp_base::number::MessageNo;
 use sp_base::text::Str;
 use sp_base::topic::Topic;
 use std::alloc::Global;
@@ -146,5 +148,50 @@ fn times_to_live_end_at_4294967295000(rt: HostRuntime) -> Result<(), Fail> {
     let longest = TimeToLive::new(LONGEST_TTL).ok_or("no time to live")?;
     assert_eq!(rt; longest.value(), 4_294_967_295_000);
     assert!(rt; TimeToLive::new(4_294_967_295_001).is_none());
+    Ok(())
+}
+
+fn grouped(alloc: Global, value: Value) -> Result<Message, Fail> {
+    let mut rows = Vec::new(alloc);
+    rows.push(property(alloc, "JMSXGroupID", value)?)?;
+    hello(alloc, Properties::from_vec(rows).ok_or("no properties")?)
+}
+
+// Texts with their 64-bit FNV-1a hashes, as the hash's authors publish them.
+const HASHES: [(&str, u64); 5] = [
+    ("", 0xcbf2_9ce4_8422_2325),
+    ("a", 0xaf63_dc4c_8601_ec8c),
+    ("b", 0xaf63_df4c_8601_f1a5),
+    ("fo", 0x0898_5907_b541_d342),
+    ("foobar", 0x8594_4171_f739_67e8),
+];
+
+#[test]
+fn a_group_goes_by_its_hash(rt: HostRuntime) -> Result<(), Fail> {
+    let alloc = rt.alloc();
+    for (group, hash) in HASHES {
+        let message = grouped(alloc, Value::Text(Str::copy_of(alloc, group)?))?;
+        assert_eq!(rt;
+            partition(&message, MessageNo::of(1), u64::MAX),
+            hash,
+            "{group}"
+        );
+    }
+    for (group, place) in [("a", 0), ("b", 1), ("c", 2), ("d", 3)] {
+        let message = grouped(alloc, Value::Text(Str::copy_of(alloc, group)?))?;
+        assert_eq!(rt; partition(&message, MessageNo::of(1), 4), place, "{group}");
+    }
+    Ok(())
+}
+
+#[test]
+fn a_message_without_a_group_goes_by_its_number(rt: HostRuntime) -> Result<(), Fail> {
+    let alloc = rt.alloc();
+    let plain = hello(alloc, Properties::none(alloc))?;
+    let whole = grouped(alloc, Value::Whole(1))?;
+    for (number, place) in [(0, 0), (7, 3), (8, 0)] {
+        assert_eq!(rt; partition(&plain, MessageNo::of(number), 4), place);
+        assert_eq!(rt; partition(&whole, MessageNo::of(number), 4), place);
+    }
     Ok(())
 }

@@ -1,4 +1,5 @@
-ghost use Rattle.std.specs.Prelude.{◌≡◌, ◌≤◌, ◌/◌, ◌%◌, ◌++◌, ◌∷◌, ◌<◌, neg_ℤ, unsigned_abs, string_bytes, IfOk, OnOk, SomeIff};
+ghost use Rattle.std.specs.Str.{is_utf8};
+ghost use Rattle.std.specs.Prelude.{◌≡◌, ◌&&◌, length, nat_le, ◌≤◌, ◌/◌, ◌%◌, ◌++◌, ◌∷◌, ◌<◌, neg_ℤ, unsigned_abs, string_bytes, IfOk, OnOk, SomeIff};
 ghost use Rattle.std.specs.Fmt.{decimal};
 ghost use Rattle.sp_message.specs.Decimal.{fixed_of, fixed_text, bounded, has_minus, places_of, unsigned_fixed_of};
 ghost use Rattle.sp_message.specs.Value.{is_in_range, text_len};
@@ -103,14 +104,16 @@ pub enum Value {
 }
 
 impl Value {
-    /// Whether a whole number or a text keeps its bound.
+    /// Whether a number or a text keeps its bound. A fixed number always does, and a text is UTF-8 by its
+    /// type.
     pub fn is_in_range(&self) -> bool
         ensures { result ≡ is_in_range self.now }
     {
         match self {
             Value::Whole(n) => *n != i64::MIN,
-            Value::Text(text) => text.len() <= LONGEST_TEXT,
-            Value::Fixed(_) | Value::Bool(_) => true,
+            Value::Text(text) => is_short(text),
+            Value::Fixed(fixed) => fixed.millionths().unsigned_abs() <= GREATEST_FIXED,
+            Value::Bool(_) => true,
         }
     }
 
@@ -135,6 +138,12 @@ impl Value {
             Value::Bool(b) => Ok(Value::Bool(*b)),
         }
     }
+}
+
+fn is_short(text: &Str) -> bool
+    ensures { result ≡ (nat_le (length text.now) LONGEST_TEXT && is_utf8 text.now) }
+{
+    text.as_str().len() <= LONGEST_TEXT
 }
 
 /// The number of millionths that a text without a sign stands for: digits, a point and one to six

@@ -4,7 +4,7 @@ ghost use Rattle.sp_base.specs.Name.{is_caller};
 ghost use Rattle.sp_copies.specs.declared.closed.Cause.TheVariants.{TopicChanged};
 ghost use Rattle.sp_copies.specs.declared.closed.Closing.TheVariants.{Discarded};
 ghost use Rattle.sp_ledger.specs.Changes.{binds, closes, frees, unbinds};
-ghost use Rattle.sp_ledger.specs.OnFlows.{new_flow, new_topic};
+ghost use Rattle.sp_ledger.specs.OnFlows.{new_flow, rebinding};
 ghost use Rattle.sp_plan.specs.Plan.{changes_of};
 ghost use Rattle.std.specs.Prelude.{◌≡◌, ◌++◌, ◌∷◌, [], IfOk, OnOk, map, true};
 
@@ -47,7 +47,7 @@ pub fn binding(
     flow: Flow,
 ) -> Result<Vec<Change>, AllocError>
     ensures { IfOk result (λ changes. changes_of changes.items
-        ≡ map (λ c. closes c.number (Discarded TopicChanged)) copies.now ++ new_topic endpoint.now bound ++ binds flow ∷ []) }
+        ≡ map (λ c. closes c.number (Discarded TopicChanged)) copies.now ++ rebinding endpoint.now bound ++ binds flow ∷ []) }
 {
     let mut changes = discarded(alloc, copies)?;
     push_rebound(&mut changes, endpoint, bound)?;
@@ -77,7 +77,7 @@ fn push_rebound(
     endpoint: &Endpoint,
     bound: Endpoint,
 ) -> Result<(), AllocError>
-    ensures { OnOk result (changes_of changes.new.items ≡ changes_of changes.old.items ++ new_topic endpoint.now bound) }
+    ensures { OnOk result (changes_of changes.new.items ≡ changes_of changes.old.items ++ rebinding endpoint.now bound) }
 {
     if is_rebound(endpoint, &bound) {
         changes.push(Change::Becomes(bound))?;

@@ -9,4 +9,6 @@ pub mod need;
 pub mod plan;
 pub mod published;
 pub mod publishing;
+pub mod reach;
+pub mod told;
 pub mod topics;

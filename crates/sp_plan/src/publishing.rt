@@ -1,54 +1,67 @@
 //! The copies of a message that is published, and what is told of them.
-ghost use Rattle.sp_ledger.specs.Publish.{share_for, told_copies};
+ghost use Rattle.sp_ledger.specs.Publish.{partition_for, share_for, told_copies};
 ghost use Rattle.std.specs.Prelude.{◌≡◌, ◌≤◌, ◌+◌, ◌^◌, IfOk, length, map};
 
 use sp_base::items::Items;
 use sp_base::number::{CopyNo, MessageNo};
+use sp_config::attributes::Attributes;
 use sp_copies::closed::Fate;
 use sp_copies::made::{NewCopy, Origin, Share};
 use sp_endpoint::endpoint::Endpoint;
 use sp_event::answer::PublishedCopy;
+use sp_message::message::Message;
+use sp_message::partition::partition;
 use std::alloc::{AllocError, Global};
 
-/// The copies of a message of this many bytes, one for each endpoint that takes it.
+/// The copies of a message of this number, one for each endpoint that takes it.
 pub fn all_shares(
     alloc: Global,
     into: &[&Endpoint],
-    message: MessageNo,
-    size: u64,
+    message: &Message,
+    number: MessageNo,
 ) -> Result<Items<Share>, AllocError>
-    ensures { IfOk result (λ shares. shares ≡ map (λ e. share_for message size e.now) into.now) }
+    ensures { IfOk result (λ shares. shares ≡ map (λ e. share_for message.now number e.now) into.now) }
 {
-    Ok(Items::from_vec(shares_of(alloc, into, message, size)?))
+    Ok(Items::from_vec(shares_of(alloc, into, message, number)?))
 }
 
 fn shares_of(
     alloc: Global,
     into: &[&Endpoint],
-    message: MessageNo,
-    size: u64,
+    message: &Message,
+    number: MessageNo,
 ) -> Result<Vec<Share>, AllocError>
-    ensures { IfOk result (λ shares. shares.items ≡ map (λ e. share_for message size e.now) into.now) }
+    ensures { IfOk result (λ shares. shares.items ≡ map (λ e. share_for message.now number e.now) into.now) }
 {
     into.iter()
-        .map(|e| share_for(e, message, size))
+        .map(|e| share_for(e, message, number))
         .collect(alloc)
 }
 
-fn share_for(endpoint: &Endpoint, message: MessageNo, size: u64) -> Share
-    ensures { result ≡ share_for message size endpoint.now }
+fn share_for(endpoint: &Endpoint, message: &Message, number: MessageNo) -> Share
+    ensures { result ≡ share_for message.now number endpoint.now }
 {
     Share {
         copy: NewCopy {
             endpoint: endpoint.number,
-            message,
-            size,
+            message: number,
+            size: message.size(),
             origin: Origin::Published,
             deadline: None,
-            partition: 0,
+            partition: partition_for(&endpoint.attributes, message, number),
         },
         is_spooled: true,
     }
+}
+
+// The partition that a message belongs to: only a partitioned queue has several.
+fn partition_for(attributes: &Attributes, message: &Message, number: MessageNo) -> u64
+    ensures { result ≡ partition_for message.now number attributes.now }
+{
+    if !attributes.is_partitioned() {
+        return 0;
+    }
+    partition(message, number, attributes.partition_count())
 }
 
 /// What is told of the copies, which are numbered from `first` on.

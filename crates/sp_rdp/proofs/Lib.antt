@@ -3,3 +3,4 @@ pub mod KindsRead
 pub mod PostHeads
 pub mod PostReads
 pub mod Seen
+pub mod ValuesRead

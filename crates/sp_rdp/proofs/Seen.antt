@@ -1,11 +1,11 @@
 -- Which bytes a property's value is written in: visible ones, but for the space of its suffix.
 use Rattle.std.proofs.Common.{◌≡◌, ◌==◌, ℕ, ◌+◌, ◌<◌, ◌≤◌, ◌^◌, ◌/◌, ◌%◌, zero, suc, Bool, true, false, not, ◌&&◌, ◌||◌, cond, List, [], ◌∷◌, ◌++◌, decimal, ℤ, pos, negsuc, refl, sym, ap, ◌∙◌, subst, ◌-◌, arith, mod-lt}
-use Rattle.std.specs.Prelude.{nat_lt, unsigned_abs}
+use Rattle.std.specs.Prelude.{◌*◌, nat_lt, unsigned_abs}
 use Rattle.std.specs.Char.{is_ascii_digit}
 use Rattle.std.specs.Fmt.{digit_glyph, signed_decimal}
 use Rattle.std.specs.List.{flat_map, list_all}
 use Rattle.std.specs.Str.{all_ascii_digits}
-use Rattle.std.proofs.lemmas.Bool.{agree_below, agree_below_at, ltb-true}
+use Rattle.std.proofs.lemmas.Bool.{agree_below, agree_below_at, and_parts, leb-true, ltb-true}
 use Rattle.std.proofs.lemmas.Bool.Decides.{nat_tests}
 use Rattle.std.proofs.lemmas.Fmt.{decimal_is_IsNumeral}
 use Rattle.std.proofs.lemmas.List.Folds.{list_all-append}
@@ -13,18 +13,22 @@ use Rattle.std.proofs.lemmas.Str.Parse.{tells_all_ascii_digits, tells_digits}
 use Rattle.std.specs.Str.Parse.{AllDigits}
 use Rattle.percent_encoding.specs.Percent.{percent_encode_byte}
 use Rattle.sp_message.specs.Decimal.{fixed_text, places_of}
+use Rattle.sp_message.specs.Property.{is_name_byte, is_property}
+use Rattle.sp_message.specs.Value.{is_in_range}
+use Rattle.sp_message.specs.declared.property.Property.{Property}
 use Rattle.sp_message.specs.declared.value.Value.{Value}
 use Rattle.sp_message.specs.declared.value.Value.TheVariants as values
 use Rattle.sp_message.proofs.Digits.{first_place, unit_positive}
 use Rattle.std.specs.Int.{is_negative}
 use Rattle.sp_rdp.specs.Post.{is_escaped, escaped, value_text}
-use Rattle.sp_rdp.specs.ReadBack.{is_visible, IsKept}
+use Rattle.sp_rdp.specs.ReadBack.{is_visible}
 
 abbrev pub Seen : List ℕ → Type 0
 Seen bytes = list_all is_visible bytes ≡ true
 
 -- a test of bytes that implies another one of ASCII does so
-pub implied : (p q : ℕ → Bool) → agree_below (λ b. not (p b) || q b) (λ _. true) 128 ≡ true → ((b : ℕ) → nat_lt b 128 ≡ false → p b ≡ false) → (b : ℕ) → p b ≡ true → q b ≡ true
+pub implied : (p q : ℕ → Bool) → agree_below (λ b. not (p b) || q b) (λ _. true) 128 ≡ true → ((b : ℕ) → nat_lt b 128 ≡ false → p b ≡ false)
+    → (b : ℕ) → p b ≡ true → q b ≡ true
 implied p q table beyond b is = tested (nat_lt b 128) refl
   where
     tested : (t : Bool) → nat_lt b 128 ≡ t → q b ≡ true
@@ -102,7 +106,8 @@ places_seen (suc k) n small =
 pub fixed_seen : (z : ℤ) → unsigned_abs z ≤ 9223372036854775807000000 → Seen (fixed_text z)
 fixed_seen z small =
     both is_visible (sign ++ decimal (unsigned_abs z / 1000000)) (46 ∷ places_of 6 (unsigned_abs z % 1000000))
-    (both is_visible sign (decimal (unsigned_abs z / 1000000)) (signed (is_negative z)) (decimal_seen (unsigned_abs z / 1000000) (omega arith)))
+    (both is_visible sign (decimal (unsigned_abs z / 1000000)) (signed (is_negative z))
+    (decimal_seen (unsigned_abs z / 1000000) (omega arith)))
     (places_seen 6 (unsigned_abs z % 1000000) (omega arith))
   where
     sign : List ℕ
@@ -112,9 +117,13 @@ fixed_seen z small =
     signed true = refl
     signed false = refl
 
-pub value_seen : (v : Value) → IsKept v → Seen (value_text v)
-value_seen (values.Whole z) small = signed_seen z (omega arith)
-value_seen (values.Fixed z) small = fixed_seen z small
-value_seen (values.Text text) small = escaped_seen text
-value_seen (values.Bool true) small = refl
-value_seen (values.Bool false) small = refl
+pub value_seen : (v : Value) → is_in_range v ≡ true → Seen (value_text v)
+value_seen (values.Whole z) h = signed_seen z (let few = leb-true (unsigned_abs z) (2 ^ 63 - 1) h in omega (arith, few))
+value_seen (values.Fixed z) h = fixed_seen z (leb-true (unsigned_abs z) ((2 ^ 63 - 1) * 1000000) h)
+value_seen (values.Text text) h = escaped_seen text
+value_seen (values.Bool true) h = refl
+value_seen (values.Bool false) h = refl
+
+-- a property's value is in its range
+pub value_kept : (p : Property) → is_property p ≡ true → is_in_range p.value ≡ true
+value_kept p is = (and_parts _ (is_in_range p.value) (and_parts _ (list_all is_name_byte p.name) is).0).1

@@ -1,12 +1,11 @@
 -- What a consumer reads of a POST: what was written, and nothing else.
-use Rattle.std.specs.Prelude.{◌≡◌, ◌==◌, ◌&&◌, ℕ, ◌-◌, ◌^◌, ◌≤◌, ⊤, Bool, true, List, ◌∷◌, ◌++◌, length, map, codes, decimal, nat_le, nat_lt, slice_index, unsigned_abs}
+use Rattle.std.specs.Prelude.{◌≡◌, ◌==◌, ◌&&◌, ℕ, ◌≤◌, Bool, true, List, ◌∷◌, ◌++◌, Some, option_map, length, map, codes, decimal, nat_le, nat_lt, slice_index}
 use Rattle.std.specs.List.{list_all}
+use Rattle.percent_encoding.specs.Percent.{percent_decode}
 use Rattle.sp_message.specs.declared.property.Property.{Property}
 use Rattle.sp_message.specs.declared.value.Value.{Value}
 use Rattle.sp_message.specs.declared.value.Value.TheVariants as values
-use Rattle.sp_rest.specs.declared.publish.suffix.ValueKind.{ValueKind}
-use Rattle.sp_rest.specs.declared.publish.suffix.ValueKind.TheVariants as kinds
-use Rattle.sp_rest.specs.Publish.UserProperties.{value_as, value_in}
+use Rattle.sp_rest.specs.Publish.UserProperties.{value_in}
 use Rattle.sp_rest.specs.Wire.Parts.{Request}
 use Rattle.sp_rest.specs.Wire.Request.{Begins, shown}
 use Rattle.sp_rdp.specs.Post.{value_text, kind_word, head_of, post_of}
@@ -22,13 +21,6 @@ is_host host = nat_le 1 (length host) && nat_le (length host) 100 && list_all is
 -- a target is 1 to 250 visible bytes that begin with a slash
 abbrev pub is_target : List ℕ → Bool
 is_target target = nat_le 1 (length target) && nat_le (length target) 250 && list_all is_visible target && slice_index target 0 == 47
-
--- a number keeps its bound, as each one does
-abbrev pub IsKept : Value → Type 0
-IsKept (values.Whole z) = unsigned_abs z ≤ 2 ^ 63 - 1
-IsKept (values.Fixed z) = unsigned_abs z ≤ 9223372036854775807000000
-IsKept (values.Text text) = ⊤
-IsKept (values.Bool b) = ⊤
 
 -- what stands in a property's field
 abbrev pub told_value : Value → List ℕ
@@ -60,13 +52,13 @@ pub record ReadsAs (bytes target host : List ℕ) (properties : List Property) (
   pub fields : map shown request.fields ≡ post_fields host (length payload) properties
   pub body : request.body ≡ payload
 
--- the kind that a reader of publishes has for a value
-abbrev pub kind_of : Value → ValueKind
-kind_of (values.Whole n) = kinds.Whole
-kind_of (values.Fixed f) = kinds.Fixed
-kind_of (values.Text text) = kinds.Text
-kind_of (values.Bool b) = kinds.Bool
+-- a value, with the percent-escapes of a text undone
+abbrev pub unescaped : Value → Value
+unescaped (values.Whole n) = values.Whole n
+unescaped (values.Fixed f) = values.Fixed f
+unescaped (values.Text text) = values.Text (percent_decode text)
+unescaped (values.Bool b) = values.Bool b
 
--- a reader of publishes takes what was written of the value, and no more or less, for a value of its kind
-abbrev pub ReadsItsKind : Property → Type 0
-ReadsItsKind p = value_in (told_value p.value) ≡ value_as (kind_of p.value) (value_text p.value)
+-- what a reader of publishes takes for the value in the property's field is, unescaped, the property's value
+abbrev pub ReadsValue : Property → Type 0
+ReadsValue p = option_map unescaped (value_in (told_value p.value)) ≡ Some p.value

@@ -1,7 +1,7 @@
 ghost use Rattle.std.specs.Prelude.{◌≡◌, ◌++◌, All, List, ℕ, IfOk, OnOk, OnErr, string_bytes, decimal};
 ghost use Rattle.std.specs.List.{flat_map};
 ghost use Rattle.sp_rdp.specs.Post.{escaped, value_text, kind_word, property_line, before_host, after_host, head_of, post_of};
-ghost use Rattle.sp_rdp.specs.ReadBack.{IsKept, IsShort, ReadsAs, ReadsItsKind};
+ghost use Rattle.sp_rdp.specs.ReadBack.{IsShort, ReadsAs, ReadsValue};
 
 use percent_encoding::{AsciiSet, CONTROLS, ascii_set, percent_encode};
 use sp_base::failure::Memory;
@@ -16,8 +16,9 @@ pub const ESCAPED: AsciiSet = ascii_set!(CONTROLS.add(b' ').add(b'%').add(b';'))
 /// Appends the POST that carries a payload and its properties to a target of a host. Without memory
 /// `into` stays as it was. The POST is read as what it was made of and nothing else, where the host
 /// and the target are of their forms and the head keeps the limits of a request: at most 60
-/// properties, whose numbers keep their bounds, and 8,192 bytes.
-#[tactic(auto, using(crate::proofs::KindsRead::kinds_read))]
+/// properties, and 8,192 bytes. Each property's field is read as its value, whatever the limits, by
+/// a reader that undoes the percent-escapes of texts.
+#[tactic(auto, using(crate::proofs::ValuesRead::values_read))]
 pub fn post(
     alloc: Global,
     payload: &Payload,
@@ -28,8 +29,8 @@ pub fn post(
 ) -> Result<(), Memory>
     ensures ok { OnOk result (into.new.items ≡ into.old.items ++ post_of target.now host.now properties.now payload.now) }
     ensures err { OnErr result (into.new.items ≡ into.old.items) }
-    ensures read_back { IsShort target.now host.now properties.now payload.now → All (λ p. IsKept p.value) properties.now → (more : List ℕ) → ReadsAs (post_of target.now host.now properties.now payload.now ++ more) target.now host.now properties.now payload.now }
-    ensures kinds { All ReadsItsKind properties.now }
+    ensures read_back { IsShort target.now host.now properties.now payload.now → (more : List ℕ) → ReadsAs (post_of target.now host.now properties.now payload.now ++ more) target.now host.now properties.now payload.now }
+    ensures values { All ReadsValue properties.now }
 {
     match append(
         alloc,

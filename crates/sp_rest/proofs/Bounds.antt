@@ -32,13 +32,15 @@ body_small pairs n e =
     length_small (filter is_size pairs) n (sym (cond-false _ _ _ parts.plain) ∙ e)
 
 -- a request that ends within the bytes stays one without what follows them
-begins_front : (bytes more : List ℕ) (request : Request) (used : ℕ) → Begins (bytes ++ more) request used → used ≤ length bytes → Begins bytes request used
+begins_front : (bytes more : List ℕ) (request : Request) (used : ℕ) → Begins (bytes ++ more) request used
+    → used ≤ length bytes → Begins bytes request used
 begins_front bytes more request used b fits =
     let p = print_request b.h in
     let front = p ++ b.body in
     let size : length front ≡ used = let is = b.used_is in omega (arith, length-append p b.body) in
     let whole : bytes ++ more ≡ front ++ b.rest = b.head.reads.1 ∙ sym (append_assoc p b.body b.rest) in
-    let same : take used bytes ≡ front = sym (take-append-le used bytes more fits) ∙ ap (take used) whole ∙ take_at front b.rest used size in
+    let same : take used bytes ≡ front = sym (take-append-le used bytes more fits) ∙ ap (take used) whole
+    ∙ take_at front b.rest used size in
     let again : bytes ≡ p ++ (b.body ++ drop used bytes) =
     sym (take-append-drop used bytes) ∙ ap (λ (t : List ℕ). t ++ drop used bytes) same ∙ append_assoc p b.body (drop used bytes) in
     record {
@@ -51,7 +53,8 @@ begins_front bytes more request used b fits =
     }
 
 -- what isn't a request yet is shorter than the request that it becomes
-pub partial_short : (bytes : List ℕ) (cut : Cut) → OnPartial cut (NoRequest bytes) → OnPartial cut (MayBecome bytes) → OnPartial cut (length bytes < 8396800)
+pub partial_short : (bytes : List ℕ) (cut : Cut) → OnPartial cut (NoRequest bytes) → OnPartial cut (MayBecome bytes)
+    → OnPartial cut (length bytes < 8396800)
 partial_short bytes (Whole request used) none may = tt
 partial_short bytes Hopeless none may = tt
 partial_short bytes Partial none (inr target) = let short = target.short in omega arith

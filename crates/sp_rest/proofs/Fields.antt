@@ -56,7 +56,8 @@ pub good_front : (ps qs : List Pair) → IsGood (ps ++ qs) → IsGood ps
 good_front ps qs good =
     let parts = good_parts (ps ++ qs) good in
     let none = or_none _ _ (sym (list_any-append is_encoding ps qs) ∙ parts.plain) in
-    let sized = by_front (filter is_size ps) (filter is_size qs) parts.size (sym (ap length_by (filter-append is_size ps qs)) ∙ parts.sized) in
+    let sized = by_front (filter is_size ps) (filter is_size qs) parts.size
+    (sym (ap length_by (filter-append is_size ps qs)) ∙ parts.sized) in
     good_from ps (record { plain = none.0; size = sized.0; sized = sized.1 })
 
 -- a field with another name changes nothing
@@ -64,14 +65,16 @@ pub good_push : (ps : List Pair) (p : Pair) → IsGood ps → is_encoding p ≡ 
 good_push ps p good no_encoding no_size =
     let parts = good_parts ps good in
     let one : filter is_size (p ∷ []) ≡ [] = cond-false _ _ _ no_size in
-    let same : filter is_size (ps ++ p ∷ []) ≡ filter is_size ps = filter-append is_size ps (p ∷ []) ∙ ap (λ (ys : List Pair). filter is_size ps ++ ys) one ∙ append-nil (filter is_size ps) in
+    let same : filter is_size (ps ++ p ∷ []) ≡ filter is_size ps = filter-append is_size ps (p ∷ [])
+    ∙ ap (λ (ys : List Pair). filter is_size ps ++ ys) one ∙ append-nil (filter is_size ps) in
     good_from (ps ++ p ∷ []) (record {
       plain = list_any-append is_encoding ps (p ∷ []) ∙ rw (parts.plain, no_encoding) refl;
       size = parts.size;
       sized = ap length_by same ∙ parts.sized;
     })
 
-by_last : (xs : List Pair) (p q : Pair) (n k : ℕ) → length_by (xs ++ p ∷ []) ≡ Some n → length_in q.1 ≡ Some k → length_by (xs ++ q ∷ []) ≡ Some k
+by_last : (xs : List Pair) (p q : Pair) (n k : ℕ) → length_by (xs ++ p ∷ []) ≡ Some n → length_in q.1 ≡ Some k
+    → length_by (xs ++ q ∷ []) ≡ Some k
 by_last [] p q n k e f = f
 by_last (x ∷ []) p q n k e f = absurd (none_some e)
 by_last (x ∷ y ∷ xs) p q n k e f = absurd (none_some e)
@@ -86,18 +89,22 @@ pub given_length : (ps : List Pair) (p : Pair) → IsGood (ps ++ p ∷ []) → i
 given_length ps p good size =
     let parts = good_parts (ps ++ p ∷ []) good in
     let one : filter is_size (p ∷ []) ≡ p ∷ [] = cond-true _ _ _ size in
-    let sized = sym (ap length_by (filter-append is_size ps (p ∷ []) ∙ ap (λ (ys : List Pair). filter is_size ps ++ ys) one)) ∙ parts.sized in
+    let sized = sym (ap length_by (filter-append is_size ps (p ∷ []) ∙ ap (λ (ys : List Pair). filter is_size ps
+    ++ ys) one)) ∙ parts.sized in
     (parts.size, last_length (filter is_size ps) p parts.size sized)
 
 -- another value of the last field
-pub good_change : (ps : List Pair) (name v w : List ℕ) → IsGood (ps ++ (name, v) ∷ []) → (is_size (name, v) ≡ true → IsLength w) → IsGood (ps ++ (name, w) ∷ [])
+pub good_change : (ps : List Pair) (name v w : List ℕ) → IsGood (ps ++ (name, v) ∷ []) → (is_size (name, v) ≡ true → IsLength w)
+    → IsGood (ps ++ (name, w) ∷ [])
 good_change ps name v w good given = by_test (is_size (name, v)) refl
   where
     before : IsGood ps
     before = good_front ps ((name, v) ∷ []) good
 
     none : (list_any is_encoding ps ≡ false) × ((is_encoding (name, v) || false) ≡ false)
-    none = or_none (list_any is_encoding ps) (is_encoding (name, v) || false) (sym (list_any-append is_encoding ps ((name, v) ∷ [])) ∙ (good_parts (ps ++ (name, v) ∷ []) good).plain)
+    none =
+        or_none (list_any is_encoding ps) (is_encoding (name, v) || false)
+        (sym (list_any-append is_encoding ps ((name, v) ∷ [])) ∙ (good_parts (ps ++ (name, v) ∷ []) good).plain)
 
     plain : list_any is_encoding (ps ++ (name, w) ∷ []) ≡ false
     plain = list_any-append is_encoding ps ((name, w) ∷ []) ∙ rw (none.0, none.1) refl
@@ -108,11 +115,13 @@ good_change ps name v w good given = by_test (is_size (name, v)) refl
         let parts = good_parts (ps ++ (name, v) ∷ []) good in
         let old : filter is_size ((name, v) ∷ []) ≡ (name, v) ∷ [] = cond-true (is_size (name, v)) _ _ size in
         let new_one : filter is_size ((name, w) ∷ []) ≡ (name, w) ∷ [] = cond-true (is_size (name, v)) _ _ size in
-        let sized = sym (ap length_by (filter-append is_size ps ((name, v) ∷ []) ∙ ap (λ (ys : List Pair). filter is_size ps ++ ys) old)) ∙ parts.sized in
+        let sized = sym (ap length_by (filter-append is_size ps ((name, v) ∷ []) ∙ ap
+        (λ (ys : List Pair). filter is_size ps ++ ys) old)) ∙ parts.sized in
         good_from (ps ++ (name, w) ∷ []) (record {
           plain = plain;
           size = k.0;
-          sized = ap length_by (filter-append is_size ps ((name, w) ∷ []) ∙ ap (λ (ys : List Pair). filter is_size ps ++ ys) new_one) ∙ by_last (filter is_size ps) (name, v) (name, w) parts.size k.0 sized k.1;
+          sized = ap length_by (filter-append is_size ps ((name, w) ∷ []) ∙ ap (λ (ys : List Pair). filter is_size ps ++ ys) new_one)
+              ∙ by_last (filter is_size ps) (name, v) (name, w) parts.size k.0 sized k.1;
         })
     by_test false other =
         let parts = good_parts ps before in
@@ -120,13 +129,15 @@ good_change ps name v w good given = by_test (is_size (name, v)) refl
         good_from (ps ++ (name, w) ∷ []) (record {
           plain = plain;
           size = parts.size;
-          sized = ap length_by (filter-append is_size ps ((name, w) ∷ []) ∙ ap (λ (ys : List Pair). filter is_size ps ++ ys) one ∙ append-nil (filter is_size ps)) ∙ parts.sized;
+          sized = ap length_by (filter-append is_size ps ((name, w) ∷ []) ∙ ap (λ (ys : List Pair). filter is_size ps ++ ys) one
+              ∙ append-nil (filter is_size ps)) ∙ parts.sized;
         })
 
 -- a name is as long as the one that it is
 pub named_length : (name t v : List ℕ) → is_named name (t, v) ≡ true → length t ≡ length name
 named_length name t v is =
-    let same : map to_ascii_lowercase t ≡ map to_ascii_lowercase name = (bytes_eq-Decides (map to_ascii_lowercase t) (map to_ascii_lowercase name)).0 is in
+    let same : map to_ascii_lowercase t ≡ map to_ascii_lowercase name =
+    (bytes_eq-Decides (map to_ascii_lowercase t) (map to_ascii_lowercase name)).0 is in
     sym (length-map t to_ascii_lowercase) ∙ ap length same ∙ length-map name to_ascii_lowercase
 
 other_length : (name t v : List ℕ) (b : Bool) → is_named name (t, v) ≡ b → (length t ≡ length name → ⊥) → is_named name (t, v) ≡ false
@@ -138,16 +149,25 @@ pub other_name : (t v w : List ℕ) → (is_encoding (t, v) ≡ true) ⊎ (is_si
     → (is_encoding (t ++ 120 ∷ [], w) ≡ false) × (is_size (t ++ 120 ∷ [], w) ≡ false)
 other_name t v w (inl e) =
     let size : length t ≡ 17 = named_length (codes "transfer-encoding") t v e in
-    let more = length-append t (120 ∷ []) in
-    (other_length (codes "transfer-encoding") (t ++ 120 ∷ []) w _ refl (λ x. let y : length (t ++ 120 ∷ []) ≡ 17 = x in omega arith), other_length (codes "content-length") (t ++ 120 ∷ []) w _ refl (λ x. let y : length (t ++ 120 ∷ []) ≡ 14 = x in omega arith))
+    let more = length-append t (120 ∷ []) in (
+      other_length (codes "transfer-encoding") (t ++ 120 ∷ []) w _ refl
+          (λ x. let y : length (t ++ 120 ∷ []) ≡ 17 = x in omega arith),
+      other_length (codes "content-length") (t ++ 120 ∷ []) w _ refl
+          (λ x. let y : length (t ++ 120 ∷ []) ≡ 14 = x in omega arith),
+    )
 other_name t v w (inr e) =
     let size : length t ≡ 14 = named_length (codes "content-length") t v e in
-    let more = length-append t (120 ∷ []) in
-    (other_length (codes "transfer-encoding") (t ++ 120 ∷ []) w _ refl (λ x. let y : length (t ++ 120 ∷ []) ≡ 17 = x in omega arith), other_length (codes "content-length") (t ++ 120 ∷ []) w _ refl (λ x. let y : length (t ++ 120 ∷ []) ≡ 14 = x in omega arith))
+    let more = length-append t (120 ∷ []) in (
+      other_length (codes "transfer-encoding") (t ++ 120 ∷ []) w _ refl
+          (λ x. let y : length (t ++ 120 ∷ []) ≡ 17 = x in omega arith),
+      other_length (codes "content-length") (t ++ 120 ∷ []) w _ refl
+          (λ x. let y : length (t ++ 120 ∷ []) ≡ 14 = x in omega arith),
+    )
 
 -- no field of an encoding is there
 pub no_encoding : (ps : List Pair) (p : Pair) → IsGood (ps ++ p ∷ []) → is_encoding p ≡ true → ⊥
 no_encoding ps p good coded =
-    let none = or_none (list_any is_encoding ps) (is_encoding p || false) (sym (list_any-append is_encoding ps (p ∷ [])) ∙ (good_parts (ps ++ p ∷ []) good).plain) in
+    let none = or_none (list_any is_encoding ps) (is_encoding p || false)
+    (sym (list_any-append is_encoding ps (p ∷ [])) ∙ (good_parts (ps ++ p ∷ []) good).plain) in
     let first = or_none (is_encoding p) false none.1 in
     absurd (cc (first.0, coded))

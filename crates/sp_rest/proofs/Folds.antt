@@ -10,7 +10,8 @@ none_stays : (fields : List Field) → None ≡ fold with_field None fields
 none_stays [] = refl
 none_stays (f ∷ fields) = none_stays fields
 
-pub none_after : (f : Field) (rest all : List Field) (ps : List Property) → all ≡ f ∷ rest → is_user_property f ≡ true → property_in f ≡ None
+pub none_after : (f : Field) (rest all : List Field) (ps : List Property) → all ≡ f ∷ rest
+    → is_user_property f ≡ true → property_in f ≡ None
     → None ≡ fold with_field (Some ps) (filter is_user_property all)
 none_after f rest all ps e named none =
     none_stays (filter is_user_property rest)

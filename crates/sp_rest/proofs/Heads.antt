@@ -18,10 +18,12 @@ too_long bytes h r x long more k len q y =
     omega arith
 
 -- a whole head that gives no length
-pub no_length : (bytes : List ℕ) (h : RequestHead) (r : List ℕ) → ReadsRequest bytes h r → body_length (map name_and_value h.fields) ≡ None → NeverHead bytes
+pub no_length : (bytes : List ℕ) (h : RequestHead) (r : List ℕ) → ReadsRequest bytes h r
+    → body_length (map name_and_value h.fields) ≡ None → NeverHead bytes
 no_length bytes h r x none more k len q y =
     let same = request_prefix_free bytes more h k r q x y.reads in
-    let both : body_length (map name_and_value h.fields) ≡ body_length (map name_and_value k.fields) = ap (λ (g : RequestHead). body_length (map name_and_value g.fields)) same.0 in
+    let both : body_length (map name_and_value h.fields) ≡ body_length (map name_and_value k.fields) =
+    ap (λ (g : RequestHead). body_length (map name_and_value g.fields)) same.0 in
     let some = y.body in
     absurd (cc)
 

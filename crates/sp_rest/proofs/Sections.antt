@@ -41,7 +41,8 @@ refuses_next before f text room count more s field one none gs last all good e s
     short (omega arith)
 
 -- a line that is whole, with an empty line after it
-closes_with : (before : List Field) (text : List ℕ) (room count : ℕ) (s : List ℕ) (g : Field) (last : LineEnd) → IsField g → IsGood (map name_and_value before ++ name_and_value g ∷ [])
+closes_with : (before : List Field) (text : List ℕ) (room count : ℕ) (s : List ℕ) (g : Field) (last : LineEnd) → IsField g
+    → IsGood (map name_and_value before ++ name_and_value g ∷ [])
     → text ++ s ≡ print_field g ++ print_end last → length s ≤ room → 1 ≤ count → Refuses before text room count s → ⊥
 closes_with before text room count s g last field good e short few none =
     none (g ∷ []) last (All-cons IsField g [] field (All-nil IsField))
@@ -52,7 +53,8 @@ closes_with before text room count s g last field good e short few none =
 closes_empty : (before : List Field) (text : List ℕ) (room count : ℕ) (s : List ℕ) (last : LineEnd) → IsGood (map name_and_value before)
     → text ++ s ≡ print_end last → length s ≤ room → Refuses before text room count s → ⊥
 closes_empty before text room count s last good e short none =
-    none [] last (All-nil IsField) (subst (λ (fs : List Field). IsGood (map name_and_value fs)) (sym (append-nil before)) good) e short (omega arith)
+    none [] last (All-nil IsField) (subst (λ (fs : List Field). IsGood (map name_and_value fs))
+    (sym (append-nil before)) good) e short (omega arith)
 
 -- within the line end of the last line or of a field
 pub ends_cut : (end : LineEnd) (x m : List ℕ) → print_end end ≡ x ++ m → 0 < length m → (x ≡ []) ⊎ ((x ≡ 13 ∷ []) × (end ≡ crlf))
@@ -64,7 +66,9 @@ ends_cut lf (a ∷ b ∷ x) m e some = let n = ap length e in absurd (omega (ari
 
 pub All-front : (test : ℕ → Bool) (x m : List ℕ) → AllPass test (x ++ m) → AllPass test x
 All-front test [] m all = All-nil _
-All-front test (b ∷ x) m all = All-cons (λ v. test v ≡ true) b x (All-head (λ v. test v ≡ true) b (x ++ m) all) (All-front test x m (All-tail (λ v. test v ≡ true) b (x ++ m) all))
+All-front test (b ∷ x) m all =
+    All-cons (λ v. test v ≡ true) b x (All-head (λ v. test v ≡ true) b (x ++ m) all)
+    (All-front test x m (All-tail (λ v. test v ≡ true) b (x ++ m) all))
 
 pub end_size : (end : LineEnd) → 1 ≤ length (print_end end)
 end_size crlf = omega arith
@@ -82,7 +86,9 @@ letter_is_token = refl
 
 line_closed : (name raw : List ℕ) (end : LineEnd) (text s : List ℕ) → text ++ s ≡ name ++ (58 ∷ (raw ++ (print_end end ++ 10 ∷ [])))
     → text ++ s ≡ print_field (record { name = name; raw = raw; end = end }) ++ print_end lf
-line_closed name raw end text s e = e ∙ sym (ap (λ (t : List ℕ). t ++ 10 ∷ []) (field_print (record { name = name; raw = raw; end = end })) ∙ regroup name raw (print_end end))
+line_closed name raw end text s e =
+    e ∙ sym (ap (λ (t : List ℕ). t ++ 10 ∷ []) (field_print (record { name = name; raw = raw; end = end }))
+    ∙ regroup name raw (print_end end))
   where
     regroup : (a b c : List ℕ) → (a ++ (58 ∷ (b ++ c))) ++ 10 ∷ [] ≡ a ++ (58 ∷ (b ++ (c ++ 10 ∷ [])))
     regroup a b c = simp append_assoc
@@ -97,25 +103,33 @@ name_cut before text room count good token few wide wider none = by_tests (is_en
         let g : Field = record { name = text ++ 120 ∷ []; raw = []; end = lf } in
         let other = other_name text [] (field_value g) either in
         let field : IsField g = record {
-          name = (omega (arith, length-append text (120 ∷ [])), All-append (λ v. is_token_byte v ≡ true) text (120 ∷ []) token.1 (All-cons (λ v. is_token_byte v ≡ true) 120 [] letter_is_token (All-nil _)));
+          name = (
+            omega (arith, length-append text (120 ∷ [])),
+            All-append (λ v. is_token_byte v ≡ true) text (120 ∷ []) token.1
+                (All-cons (λ v. is_token_byte v ≡ true) 120 [] letter_is_token (All-nil _)),
+          );
           raw = All-nil _;
         } in
-        closes_with before text room count (120 ∷ 58 ∷ 10 ∷ 10 ∷ []) g lf field (good_push (map name_and_value before) (name_and_value g) good other.0 other.1)
-        (line_closed (text ++ 120 ∷ []) [] lf text (120 ∷ 58 ∷ 10 ∷ 10 ∷ []) (sym (append_assoc text (120 ∷ []) (58 ∷ 10 ∷ 10 ∷ [])))) (wider either) few none.letter
+        closes_with before text room count (120 ∷ 58 ∷ 10 ∷ 10 ∷ []) g lf field
+        (good_push (map name_and_value before) (name_and_value g) good other.0 other.1)
+        (line_closed (text ++ 120 ∷ []) [] lf text (120 ∷ 58 ∷ 10 ∷ 10 ∷ []) (sym (append_assoc text (120 ∷ []) (58 ∷ 10 ∷ 10 ∷ []))))
+        (wider either) few none.letter
 
     by_tests : (a b : Bool) → is_encoding (text, []) ≡ a → is_size (text, []) ≡ b → ⊥
     by_tests true b e f = named (inl e)
     by_tests false true e f = named (inr f)
     by_tests false false e f =
         let g : Field = record { name = text; raw = []; end = lf } in
-        closes_with before text room count (58 ∷ 10 ∷ 10 ∷ []) g lf (record { name = token; raw = All-nil _ }) (good_push (map name_and_value before) (name_and_value g) good e f)
+        closes_with before text room count (58 ∷ 10 ∷ 10 ∷ []) g lf (record { name = token; raw = All-nil _ })
+        (good_push (map name_and_value before) (name_and_value g) good e f)
         (line_closed text [] lf text (58 ∷ 10 ∷ 10 ∷ []) refl) wide few none.colon
 
 value_closed : (name r s : List ℕ) → (name ++ (58 ∷ r)) ++ s ≡ name ++ (58 ∷ (r ++ s))
 value_closed name r s = simp (append_assoc, cons-append)
 
 -- within a value
-value_cut : (before : List Field) (f : Field) (r m : List ℕ) (room count : ℕ) → IsField f → IsGood (map name_and_value before ++ name_and_value f ∷ [])
+value_cut : (before : List Field) (f : Field) (r m : List ℕ) (room count : ℕ) → IsField f
+    → IsGood (map name_and_value before ++ name_and_value f ∷ [])
     → f.raw ≡ r ++ m → 1 ≤ count → 3 ≤ room → NoneCloses before (f.name ++ (58 ∷ r)) room count → ⊥
 value_cut before f r m room count field good e few wide none = by_test (is_size (name_and_value f)) refl
   where
@@ -133,9 +147,15 @@ value_cut before f r m room count field good e few wide none = by_test (is_size 
     with_digit k =
         let g : Field = record { name = f.name; raw = r ++ 48 ∷ []; end = lf } in
         closes_with before (f.name ++ (58 ∷ r)) room count (48 ∷ 10 ∷ 10 ∷ []) g lf
-        (record { name = field.name; raw = All-append (λ v. is_value_byte v ≡ true) r (48 ∷ []) front (All-cons (λ v. is_value_byte v ≡ true) 48 [] refl (All-nil _)) })
+        (record {
+          name = field.name;
+          raw = All-append (λ v. is_value_byte v ≡ true) r (48 ∷ []) front
+              (All-cons (λ v. is_value_byte v ≡ true) 48 [] refl (All-nil _));
+        })
         (good_change (map name_and_value before) f.name (field_value f) (field_value g) good (λ _. k))
-        (line_closed f.name (r ++ 48 ∷ []) lf (f.name ++ (58 ∷ r)) (48 ∷ 10 ∷ 10 ∷ []) (value_closed f.name r (48 ∷ 10 ∷ 10 ∷ []) ∙ ap (λ (t : List ℕ). f.name ++ (58 ∷ t)) (sym (append_assoc r (48 ∷ []) (10 ∷ 10 ∷ []))))) wide few none.zero
+        (line_closed f.name (r ++ 48 ∷ []) lf (f.name ++ (58 ∷ r)) (48 ∷ 10 ∷ 10 ∷ [])
+        (value_closed f.name r (48 ∷ 10 ∷ 10 ∷ []) ∙ ap (λ (t : List ℕ). f.name ++ (58 ∷ t))
+        (sym (append_assoc r (48 ∷ []) (10 ∷ 10 ∷ []))))) wide few none.zero
 
     by_test : (t : Bool) → is_size (name_and_value f) ≡ t → ⊥
     by_test false other = as_it_is (λ is. absurd (cc))
@@ -147,7 +167,8 @@ value_cut before f r m room count field good e few wide none = by_test (is_size 
         ]
 
 -- within the line end of a field
-line_end_cut : (before : List Field) (f : Field) (x m : List ℕ) (room count : ℕ) → IsField f → IsGood (map name_and_value before ++ name_and_value f ∷ [])
+line_end_cut : (before : List Field) (f : Field) (x m : List ℕ) (room count : ℕ) → IsField f
+    → IsGood (map name_and_value before ++ name_and_value f ∷ [])
     → print_end f.end ≡ x ++ m → 0 < length m → 1 ≤ count → 2 ≤ room → NoneCloses before (f.name ++ (58 ∷ (f.raw ++ x))) room count → ⊥
 line_end_cut before f x m room count field good e some few wide none =
     elim (ends_cut f.end x m e some) [
@@ -158,12 +179,15 @@ line_end_cut before f x m room count field good e some few wide none =
     closed : (end : LineEnd) → x ++ 10 ∷ 10 ∷ [] ≡ print_end end ++ 10 ∷ [] → ⊥
     closed end t =
         let g : Field = record { name = f.name; raw = f.raw; end = end } in
-        closes_with before (f.name ++ (58 ∷ (f.raw ++ x))) room count (10 ∷ 10 ∷ []) g lf (record { name = field.name; raw = field.raw }) good
+        closes_with before (f.name ++ (58 ∷ (f.raw ++ x))) room count (10 ∷ 10 ∷ []) g lf
+        (record { name = field.name; raw = field.raw }) good
         (line_closed f.name f.raw end (f.name ++ (58 ∷ (f.raw ++ x))) (10 ∷ 10 ∷ [])
-        (value_closed f.name (f.raw ++ x) (10 ∷ 10 ∷ []) ∙ ap (λ (u : List ℕ). f.name ++ (58 ∷ u)) (append_assoc f.raw x (10 ∷ 10 ∷ []) ∙ ap (λ (u : List ℕ). f.raw ++ u) t))) wide few none.two_ends
+        (value_closed f.name (f.raw ++ x) (10 ∷ 10 ∷ []) ∙ ap (λ (u : List ℕ). f.name ++ (58 ∷ u))
+        (append_assoc f.raw x (10 ∷ 10 ∷ []) ∙ ap (λ (u : List ℕ). f.raw ++ u) t))) wide few none.two_ends
 
 -- a length has a value
-value_there : (before : List Field) (f : Field) → IsGood (map name_and_value before ++ name_and_value f ∷ []) → (is_encoding (f.name, []) ≡ true) ⊎ (is_size (f.name, []) ≡ true) → 0 < length f.raw
+value_there : (before : List Field) (f : Field) → IsGood (map name_and_value before ++ name_and_value f ∷ [])
+    → (is_encoding (f.name, []) ≡ true) ⊎ (is_size (f.name, []) ≡ true) → 0 < length f.raw
 value_there before f good (inl coded) = absurd (no_encoding (map name_and_value before) (name_and_value f) good coded)
 value_there before f good (inr size) =
     let k = given_length (map name_and_value before) (name_and_value f) good size in
@@ -174,7 +198,8 @@ value_there before f good (inr size) =
     by_raw (b ∷ raw) is k = subst (λ (v : List ℕ). 0 < length v) (sym is) (omega arith)
 
 -- within a field line
-field_cut : (before : List Field) (f : Field) (text m : List ℕ) (room count : ℕ) → IsField f → IsGood (map name_and_value before ++ name_and_value f ∷ [])
+field_cut : (before : List Field) (f : Field) (text m : List ℕ) (room count : ℕ) → IsField f
+    → IsGood (map name_and_value before ++ name_and_value f ∷ [])
     → print_field f ≡ text ++ m → 0 < length m → 1 ≤ count → length m + 1 ≤ room → NoneCloses before text room count → ⊥
 field_cut before f text m room count field good e some few wide none =
     elim (splits f.name (58 ∷ (f.raw ++ print_end f.end)) text m (sym e ∙ field_print f)) [
@@ -204,7 +229,8 @@ field_cut before f text m room count field good e some few wide none =
         let name : text ≡ f.name = is ∙ append-nil f.name in
         let size = line_size [] (sym rest) in
         let token : IsToken text = subst IsToken (sym name) field.name in
-        let value : (is_encoding (text, []) ≡ true) ⊎ (is_size (text, []) ≡ true) → 4 ≤ room = λ named. let some = raw_there (subst (λ (v : List ℕ). (is_encoding (v, []) ≡ true) ⊎ (is_size (v, []) ≡ true)) name named) in omega arith in
+        let value : (is_encoding (text, []) ≡ true) ⊎ (is_size (text, []) ≡ true) → 4 ≤ room = λ named. let some =
+        raw_there (subst (λ (v : List ℕ). (is_encoding (v, []) ≡ true) ⊎ (is_size (v, []) ≡ true)) name named) in omega arith in
         name_cut before text room count before_good token few (omega arith) value none
       where
         raw_there : (is_encoding (f.name, []) ≡ true) ⊎ (is_size (f.name, []) ≡ true) → 0 < length f.raw
@@ -215,12 +241,15 @@ field_cut before f text m room count field good e some few wide none =
         let here : text ≡ f.name ++ (58 ∷ r) = is ∙ ap (λ (n : ℕ). f.name ++ (n ∷ r)) (sym colon) in
         let at : NoneCloses before (f.name ++ (58 ∷ r)) room count = subst (λ (v : List ℕ). NoneCloses before v room count) here none in
         elim (splits f.raw (print_end f.end) r m (sym later)) [
-          | inl v ↦ line_end_cut before f v.0 m room count field good v.2 some few (omega arith) (subst (λ (w : List ℕ). NoneCloses before (f.name ++ (58 ∷ w)) room count) v.1 at)
-          | inr v ↦ value_cut before f r v.0 room count field good v.1 few (let n = ap length v.3 in omega (arith, length-append v.0 (print_end f.end), end_size f.end)) at
+          | inl v ↦ line_end_cut before f v.0 m room count field good v.2 some few (omega arith)
+              (subst (λ (w : List ℕ). NoneCloses before (f.name ++ (58 ∷ w)) room count) v.1 at)
+          | inr v ↦ value_cut before f r v.0 room count field good v.1 few
+              (let n = ap length v.3 in omega (arith, length-append v.0 (print_end f.end), end_size f.end)) at
         ]
 
 -- within a section
-pub section_cut : (before fs : List Field) (last : LineEnd) (text m : List ℕ) (room count : ℕ) → All IsField fs → IsGood (map name_and_value (before ++ fs))
+pub section_cut : (before fs : List Field) (last : LineEnd) (text m : List ℕ) (room count : ℕ) → All IsField fs
+    → IsGood (map name_and_value (before ++ fs))
     → print_section fs last ≡ text ++ m → 0 < length m → length m ≤ room → count ≡ length fs → NoneCloses before text room count → ⊥
 section_cut before [] last text m room count all good e some wide size none =
     elim (ends_cut last text m e some) [
@@ -229,12 +258,15 @@ section_cut before [] last text m room count all good e some wide size none =
     ]
   where
     closed : (end : LineEnd) → text ++ 10 ∷ [] ≡ print_end end → ⊥
-    closed end t = closes_empty before text room count (10 ∷ []) end (subst (λ (fs : List Field). IsGood (map name_and_value fs)) (append-nil before) good) t (omega arith) none.end
+    closed end t =
+        closes_empty before text room count (10 ∷ []) end (subst (λ (fs : List Field). IsGood (map name_and_value fs))
+        (append-nil before) good) t (omega arith) none.end
 section_cut before (f ∷ fs) last text m room count all good e some wide size none =
     elim (splits (print_field f) (print_section fs last) text m (sym e ∙ section_cons f fs last)) [
       | inl t ↦
           let at : NoneCloses before (print_field f ++ t.0) room count = subst (λ (v : List ℕ). NoneCloses before v room count) t.1 none in
-          section_cut (before ++ f ∷ []) fs last t.0 m room (length fs) later (subst (λ (gs : List Field). IsGood (map name_and_value gs)) (sym (append_assoc before (f ∷ []) fs)) good) t.2 some wide refl
+          section_cut (before ++ f ∷ []) fs last t.0 m room (length fs) later
+          (subst (λ (gs : List Field). IsGood (map name_and_value gs)) (sym (append_assoc before (f ∷ []) fs)) good) t.2 some wide refl
           (record {
             end = refuses_next before f t.0 room (length fs) count (10 ∷ []) field one at.end;
             two_ends = refuses_next before f t.0 room (length fs) count (10 ∷ 10 ∷ []) field one at.two_ends;
@@ -244,7 +276,8 @@ section_cut before (f ∷ fs) last text m room count all good e some wide size n
           })
       | inr t ↦
           let n = ap length t.3 in
-          field_cut before f text t.0 room count field first_good t.1 t.2 (omega arith) (omega (arith, length-append t.0 (print_section fs last), section_size fs last)) none
+          field_cut before f text t.0 room count field first_good t.1 t.2 (omega arith)
+          (omega (arith, length-append t.0 (print_section fs last), section_size fs last)) none
     ]
   where
     field : IsField f
@@ -257,4 +290,7 @@ section_cut before (f ∷ fs) last text m room count all good e some wide size n
     one = omega arith
 
     first_good : IsGood (map name_and_value before ++ name_and_value f ∷ [])
-    first_good = subst IsGood (map_append before (f ∷ [])) (good_front (map name_and_value (before ++ f ∷ [])) (map name_and_value fs) (subst IsGood (map_append (before ++ f ∷ []) fs) (subst (λ (gs : List Field). IsGood (map name_and_value gs)) (sym (append_assoc before (f ∷ []) fs)) good)))
+    first_good =
+        subst IsGood (map_append before (f ∷ [])) (good_front (map name_and_value (before ++ f ∷ [])) (map name_and_value fs)
+        (subst IsGood (map_append (before ++ f ∷ []) fs) (subst (λ (gs : List Field). IsGood (map name_and_value gs))
+        (sym (append_assoc before (f ∷ []) fs)) good)))

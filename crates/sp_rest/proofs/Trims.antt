@@ -16,12 +16,15 @@ abbrev pub end_trimmed : List ℕ → List ℕ
 end_trimmed xs = reverse (skip_ows (reverse xs))
 
 skip_push : (ys : List ℕ) (b : ℕ)
-    → ((skip_ows ys ≡ []) × (skip_ows (ys ++ b ∷ []) ≡ skip_ows (b ∷ []))) ⊎ ((0 < length (skip_ows ys)) × (skip_ows (ys ++ b ∷ []) ≡ skip_ows ys ++ b ∷ []))
+    → ((skip_ows ys ≡ []) × (skip_ows (ys ++ b ∷ []) ≡ skip_ows (b ∷ [])))
+    ⊎ ((0 < length (skip_ows ys)) × (skip_ows (ys ++ b ∷ []) ≡ skip_ows ys ++ b ∷ []))
 skip_push [] b = inl (refl, refl)
 skip_push (c ∷ ys) b = by_test (skip_push ys b) (is_ows c) refl
   where
-    by_test : ((skip_ows ys ≡ []) × (skip_ows (ys ++ b ∷ []) ≡ skip_ows (b ∷ []))) ⊎ ((0 < length (skip_ows ys)) × (skip_ows (ys ++ b ∷ []) ≡ skip_ows ys ++ b ∷ [])) → (t : Bool) → is_ows c ≡ t
-        → ((skip_ows (c ∷ ys) ≡ []) × (skip_ows (c ∷ (ys ++ b ∷ [])) ≡ skip_ows (b ∷ []))) ⊎ ((0 < length (skip_ows (c ∷ ys))) × (skip_ows (c ∷ (ys ++ b ∷ [])) ≡ skip_ows (c ∷ ys) ++ b ∷ []))
+    by_test : ((skip_ows ys ≡ []) × (skip_ows (ys ++ b ∷ []) ≡ skip_ows (b ∷ [])))
+        ⊎ ((0 < length (skip_ows ys)) × (skip_ows (ys ++ b ∷ []) ≡ skip_ows ys ++ b ∷ [])) → (t : Bool) → is_ows c ≡ t
+        → ((skip_ows (c ∷ ys) ≡ []) × (skip_ows (c ∷ (ys ++ b ∷ [])) ≡ skip_ows (b ∷ [])))
+        ⊎ ((0 < length (skip_ows (c ∷ ys))) × (skip_ows (c ∷ (ys ++ b ∷ [])) ≡ skip_ows (c ∷ ys) ++ b ∷ []))
     by_test later true blank = rw blank later
     by_test later false other = rw other (inr (omega arith, refl))
 
@@ -33,17 +36,23 @@ one_reversed b = by_test (is_ows b) refl
     by_test false other = rw other refl
 
 pub end_trimmed_cons : (b : ℕ) (xs : List ℕ)
-    → ((end_trimmed xs ≡ []) × (end_trimmed (b ∷ xs) ≡ skip_ows (b ∷ []))) ⊎ ((0 < length (end_trimmed xs)) × (end_trimmed (b ∷ xs) ≡ b ∷ end_trimmed xs))
+    → ((end_trimmed xs ≡ []) × (end_trimmed (b ∷ xs) ≡ skip_ows (b ∷ [])))
+    ⊎ ((0 < length (end_trimmed xs)) × (end_trimmed (b ∷ xs) ≡ b ∷ end_trimmed xs))
 end_trimmed_cons b xs =
     let turned : reverse (b ∷ xs) ≡ reverse xs ++ b ∷ [] = reverse-append (b ∷ []) xs in
     elim (skip_push (reverse xs) b) [
       | inl t ↦ inl (ap reverse t.0, ap (λ (ys : List ℕ). reverse (skip_ows ys)) turned ∙ ap reverse t.1 ∙ one_reversed b)
-      | inr t ↦ inr (longer (skip_ows (reverse xs)) t.0, ap (λ (ys : List ℕ). reverse (skip_ows ys)) turned ∙ ap reverse t.1 ∙ reverse-append (skip_ows (reverse xs)) (b ∷ []))
+      | inr t ↦ inr (
+        longer (skip_ows (reverse xs)) t.0,
+        ap (λ (ys : List ℕ). reverse (skip_ows ys)) turned ∙ ap reverse t.1
+            ∙ reverse-append (skip_ows (reverse xs)) (b ∷ []),
+      )
     ]
   where
     longer : (ys : List ℕ) → 0 < length ys → 0 < length (reverse ys)
     longer [] some = some
-    longer (y ∷ ys) some = subst (λ (zs : List ℕ). 0 < length zs) (sym (reverse-append (y ∷ []) ys)) (omega (arith, length-append (reverse ys) (y ∷ [])))
+    longer (y ∷ ys) some =
+        subst (λ (zs : List ℕ). 0 < length zs) (sym (reverse-append (y ∷ []) ys)) (omega (arith, length-append (reverse ys) (y ∷ [])))
 
 skip_one : (b : ℕ) → (skip_ows (b ∷ []) ≡ []) ⊎ (skip_ows (b ∷ []) ≡ b ∷ [])
 skip_one b = by_test (is_ows b) refl
@@ -66,7 +75,8 @@ trimmed_front (b ∷ x) m =
         ]
       ]
       | inr t ↦ elim (end_trimmed_cons b (x ++ m)) [
-        | inl u ↦ absurd (let none = ap length (sym later.1 ∙ u.0) in let some = t.0 in omega (arith, length-append (end_trimmed x) later.0))
+        | inl u ↦ absurd (let none = ap length (sym later.1 ∙ u.0) in let some = t.0 in
+            omega (arith, length-append (end_trimmed x) later.0))
         | inr u ↦ (later.0, u.1 ∙ ap (λ (ys : List ℕ). b ∷ ys) later.1 ∙ sym (ap (λ (ys : List ℕ). ys ++ later.0) t.1))
       ]
     ]
@@ -94,7 +104,10 @@ number_front p k n e some =
     let grows = value_grows (digits_value 10 p) k in
     let whole = value_append 0 p k in
     let fits : digits_value 10 p ≤ 8388608 = omega arith in
-    let is : (is_number p && nat_le (digits_value 10 p) 8388608) ≡ true = and_from (is_number p) (nat_le (digits_value 10 p) 8388608) (and_from (nat_lt 0 (length p)) (all_ascii_digits p) (le-leb 1 (length p) (omega arith)) (digits_front p k number.1)) (le-leb (digits_value 10 p) 8388608 fits) in
+    let is : (is_number p && nat_le (digits_value 10 p) 8388608) ≡ true =
+    and_from (is_number p) (nat_le (digits_value 10 p) 8388608)
+    (and_from (nat_lt 0 (length p)) (all_ascii_digits p) (le-leb 1 (length p) (omega arith)) (digits_front p k number.1))
+    (le-leb (digits_value 10 p) 8388608 fits) in
     (digits_value 10 p, cond-true _ _ _ is)
 
 -- a front of a length is a length as it is, or with one digit where more bytes follow
@@ -108,7 +121,9 @@ length_front [] [] n e = absurd (none_some e)
 length_front [] (b ∷ m) n e = inr ((0, refl), omega arith)
 length_front (b ∷ r) m n e = by_test (λ x. length_front r m n x) (is_ows b) refl
   where
-    by_test : (length_in (trim_ows (r ++ m)) ≡ Some n → IsLength (trim_ows r) ⊎ (IsLength (trim_ows (r ++ 48 ∷ [])) × (0 < length m))) → (t : Bool) → is_ows b ≡ t → IsLength (reverse (skip_ows (reverse (skip_ows (b ∷ r))))) ⊎ (IsLength (reverse (skip_ows (reverse (skip_ows (b ∷ (r ++ 48 ∷ [])))))) × (0 < length m))
+    by_test : (length_in (trim_ows (r ++ m)) ≡ Some n → IsLength (trim_ows r) ⊎ (IsLength (trim_ows (r ++ 48 ∷ [])) × (0 < length m)))
+        → (t : Bool) → is_ows b ≡ t → IsLength (reverse (skip_ows (reverse (skip_ows (b ∷ r)))))
+        ⊎ (IsLength (reverse (skip_ows (reverse (skip_ows (b ∷ (r ++ 48 ∷ [])))))) × (0 < length m))
     by_test later true blank =
         let same : skip_ows (b ∷ (r ++ m)) ≡ skip_ows (r ++ m) = cond-true _ _ _ blank in
         rw blank (later (sym (ap (λ (ys : List ℕ). length_in (end_trimmed ys)) same) ∙ e))

@@ -1,12 +1,12 @@
 -- What a run's answers told holds at its end.
-use Rattle.std.proofs.Common.{◌≡◌, ℕ, List, [], ◌∷◌, ◌++◌, None, Option, Some, Result, Ok, Err, true, inl, inr, refl, sym, ap, subst, ◌∙◌}
-use Rattle.std.specs.Prelude.{◌==◌, All, IsTrue, ⊤, flat_map, is_some}
+use Rattle.std.proofs.Common.{◌≡◌, ℕ, List, [], ◌∷◌, None, Option, Result, Ok, Err, true, inl, inr, refl, sym, ap, subst, ◌∙◌}
+use Rattle.std.specs.Prelude.{◌==◌, All, IsTrue, ⊤, is_some}
 use Rattle.std.proofs.lemmas.Bool.{eqb-true}
 use Rattle.std.proofs.lemmas.List.Elements.{All-nil, All-cons, All-append, All-weaker, All-head}
 use Rattle.sp_base.specs.Name.{is_caller}
 use Rattle.sp_base.specs.declared.refusal.Refusal.{Refusal}
 use Rattle.sp_copies.specs.History.{History, is_closed, is_made}
-use Rattle.sp_copies.specs.Sound.{HasOneFate, IsSoundHistory}
+use Rattle.sp_copies.specs.Sound.{IsSoundHistory}
 use Rattle.sp_copies.specs.declared.closed.ClosedCopy.{ClosedCopy}
 use Rattle.sp_copies.specs.declared.closed.Closing.{Closing}
 use Rattle.sp_copies.specs.declared.closed.Fate.{Fate}
@@ -22,13 +22,15 @@ use Rattle.sp_ledger.specs.Asked.{Gives, Answers}
 use Rattle.sp_ledger.specs.Events.{outcome}
 use Rattle.sp_ledger.specs.Ledger.{Ledger}
 use Rattle.sp_ledger.specs.Sound.{IsLedger, IsSound}
-use Rattle.sp_ledger.specs.Step.{Outcome, refused, idle, accepted}
+use Rattle.sp_ledger.specs.Order.{HandsOutInOrder}
+use Rattle.sp_ledger.specs.Step.{Outcome, begun, refused, idle, accepted}
 use Rattle.sp_ledger.specs.Tally.{TellsBalanced}
 use Rattle.sp_ledger.specs.Told.{Extends, FateHolds, IsTold, TellsFates, told_fates}
 use Rattle.sp_ledger.proofs.Answered.{accepted_balanced, answer_balanced, answer_tells, idle_balanced}
 use Rattle.sp_ledger.proofs.CopiesKept.{kept_of}
 use Rattle.sp_ledger.proofs.Fates.{one_fate}
 use Rattle.sp_ledger.proofs.Growth.{Extends-refl, Extends-trans, outcome_extends, still_told}
+use Rattle.sp_ledger.proofs.InOrder.{accepted_in_order, answer_in_order, idle_in_order}
 use Rattle.sp_ledger.proofs.Listed.{All-any}
 use Rattle.sp_ledger.proofs.Steps.{outcome_sound}
 use Rattle.sp_ledger.proofs.Tallies.{closed-closing}
@@ -39,6 +41,7 @@ use Rattle.sp_tape.specs.declared.entry.Kind.TheVariants.{Flow, Http, Rdp, Resta
 use Rattle.sp_tape.specs.Acts.{Acts, ActsAs, AnswersReading, Told}
 use Rattle.sp_tape.specs.Entry.{IsEntry}
 use Rattle.sp_tape.specs.Fates.{AnswerHolds, CopyHolds, ReplyHolds, is_of_made}
+use Rattle.sp_tape.specs.Order.{AnswersInOrder, IsInOrder, KeepsOrder}
 use Rattle.sp_tape.specs.Run.{Turn, IsRun, answers_of, ledger_after, ledger_left}
 
 -- what is known of an answer, on the ledger after it and on each later one
@@ -57,29 +60,34 @@ still_tells L M x Disk h = tt
 still_tells L M x (Full len need most) h = tt
 
 -- a later ledger, and what was told on the way
-pub record Goes (L M : Ledger) (a : Answered) : Type 0 where
+pub record Goes (moment : ℕ) (L M : Ledger) (a : Answered) : Type 0 where
   pub ledger : IsLedger M
   pub extends : Extends L M
   pub tells : Tells M a
+  pub order : KeepsOrder (begun moment L) a
 
-stays : (L M : Ledger) (a : Answered) → IsLedger L → M ≡ L → Tells M a → Goes L M a
-stays L M a s e t = record {
+stays : (moment : ℕ) (L M : Ledger) (a : Answered) → IsLedger L → M ≡ L → Tells M a → KeepsOrder (begun moment L) a →
+    Goes moment L M a
+stays moment L M a s e t o = record {
   ledger = subst IsLedger (sym e) s;
   extends = subst (Extends L) (sym e) (Extends-refl L);
   tells = t;
+  order = o;
 }
 
 module _ (L M : Ledger) (s : IsLedger L) (moment : ℕ) (caller : List ℕ) (short : is_caller caller ≡ true) where
   gives : (event : Event) (reply : Reply) (o : Outcome) → outcome moment caller event L ≡ o → Gives o L reply M →
-      Goes L M (Gave reply)
+      Goes moment L M (Gave reply)
   gives event reply (refused refusal) e h = absurd h
   gives event reply (idle told) e (is, same) =
       let done : outcome moment caller event L ≡ idle (reply ∷ []) = e ∙ ap idle is in
       let tells = All-head (TellsFates L.copies) reply []
       (idle_tells L s.sound moment caller event (reply ∷ []) done) in
       let balanced = All-head TellsBalanced reply [] (idle_balanced L moment caller event (reply ∷ []) done) in
-      stays L M (Gave reply) s same
+      stays moment L M (Gave reply) s same
       (subst (λ (N : Ledger). IsTold N.copies reply) (sym same) (told_so L.copies reply tells), balanced)
+      (All-head (HandsOutInOrder (begun moment L)) reply []
+      (idle_in_order L s moment caller event (reply ∷ []) done))
   gives event reply (accepted N told) e (is, same) =
       let done : outcome moment caller event L ≡ accepted M (reply ∷ []) =
       e ∙ (ap (λ (rs : List Reply). accepted N rs) is ∙ ap (λ (K : Ledger). accepted K (reply ∷ [])) (sym same)) in
@@ -92,40 +100,43 @@ module _ (L M : Ledger) (s : IsLedger L) (moment : ℕ) (caller : List ℕ) (sho
           told_so M.copies reply tells,
           All-head TellsBalanced reply [] (accepted_balanced L moment caller event (reply ∷ []) M done),
         );
+        order = All-head (HandsOutInOrder (begun moment L)) reply []
+            (accepted_in_order L s moment caller event (reply ∷ []) M done);
       }
 
-  answers : (ask : Ask) (a : Answered) → Answers moment caller ask L a M → Goes L M a
+  answers : (ask : Ask) (a : Answered) → Answers moment caller ask L a M → Goes moment L M a
   answers (Do event) (Gave reply) h = gives event reply (outcome moment caller event L) refl h
-  answers (Do event) (Refused refusal index) h = stays L M (Refused refusal index) s h.2 tt
+  answers (Do event) (Refused refusal index) h = stays moment L M (Refused refusal index) s h.2 tt tt
   answers (Do event) Memory h = absurd h
   answers (Do event) Disk h = absurd h
   answers (Do event) (Full len need most) h = absurd h
   answers (Look query) (Gave reply) h =
-      stays L M (Gave reply) s h.1 (
+      stays moment L M (Gave reply) s h.1 (
         subst (λ (N : Ledger). IsTold N.copies reply) (sym h.1)
             (told_so L.copies reply (answer_tells L moment caller query reply h.0)),
         answer_balanced L s.sound moment caller query reply h.0,
       )
-  answers (Look query) (Refused refusal index) h = stays L M (Refused refusal index) s h.2 tt
+      (answer_in_order L (begun moment L) moment caller query reply h.0)
+  answers (Look query) (Refused refusal index) h = stays moment L M (Refused refusal index) s h.2 tt tt
   answers (Look query) Memory h = absurd h
   answers (Look query) Disk h = absurd h
   answers (Look query) (Full len need most) h = absurd h
 
-  lacks : (a : Answered) → a ≡ Memory → M ≡ L → Goes L M a
-  lacks a is same = subst (Goes L M) (sym is) (stays L M Memory s same tt)
+  lacks : (a : Answered) → a ≡ Memory → M ≡ L → Goes moment L M a
+  lacks a is same = subst (Goes moment L M) (sym is) (stays moment L M Memory s same tt tt)
 
-  refuses : (refusal : Refusal) (a : Answered) → a ≡ Refused refusal None → M ≡ L → Goes L M a
-  refuses refusal a is same = subst (Goes L M) (sym is) (stays L M (Refused refusal None) s same tt)
+  refuses : (refusal : Refusal) (a : Answered) → a ≡ Refused refusal None → M ≡ L → Goes moment L M a
+  refuses refusal a is same = subst (Goes moment L M) (sym is) (stays moment L M (Refused refusal None) s same tt tt)
 
 abbrev told_of : Answered → Ledger → Told
 told_of a M = record { answered = a; after = M }
 
 module _ (L M : Ledger) (s : IsLedger L) (e : Entry) (is : IsEntry e) (a : Answered) where
-  reads : (r : Result Ask Refusal) → AnswersReading e.moment e.caller r L (told_of a M) → Goes L M a
+  reads : (r : Result Ask Refusal) → AnswersReading e.moment e.caller r L (told_of a M) → Goes e.moment L M a
   reads (Ok ask) h = answers L M s e.moment e.caller is.short ask a h
   reads (Err refusal) h = refuses L M s e.moment e.caller is.short refusal a h.0 h.1
 
-  acts_as : (k : Kind) → ActsAs k e L (told_of a M) → Goes L M a
+  acts_as : (k : Kind) → ActsAs k e L (told_of a M) → Goes e.moment L M a
   acts_as Flow h = elim h [
     | inl read ↦ reads read.0 read.2
     | inr lack ↦ lacks L M s e.moment e.caller is.short a lack.0 lack.1
@@ -135,21 +146,23 @@ module _ (L M : Ledger) (s : IsLedger L) (e : Entry) (is : IsEntry e) (a : Answe
   acts_as Restart h = refuses L M s e.moment e.caller is.short _ a h.0 h.1
 
 -- what the answers of one turn leave
-record Turns (L : Ledger) (told : List Told) : Type 0 where
+record Turns (moment : ℕ) (L : Ledger) (told : List Told) : Type 0 where
   ledger : IsLedger (ledger_left L told)
   extends : Extends L (ledger_left L told)
   tells : All (λ (t : Told). Tells (ledger_left L told) t.answered) told
   each : All (λ (t : Told). IsLedger t.after) told
+  order : AnswersInOrder moment L told
 
-turns : (L : Ledger) → IsLedger L → (e : Entry) → IsEntry e → (told : List Told) → Acts e L told → Turns L told
+turns : (L : Ledger) → IsLedger L → (e : Entry) → IsEntry e → (told : List Told) → Acts e L told → Turns e.moment L told
 turns L s e is told (t, one, acts) =
     let goes = acts_as L t.after s e is t.answered e.kind acts in
-    subst (Turns L) (sym one) (record {
+    subst (Turns e.moment L) (sym one) (record {
       ledger = goes.ledger;
       extends = goes.extends;
       tells = All-cons (λ (u : Told). Tells t.after u.answered) t [] goes.tells
           (All-nil (λ (u : Told). Tells t.after u.answered));
       each = All-cons (λ (u : Told). IsLedger u.after) t [] goes.ledger (All-nil (λ (u : Told). IsLedger u.after));
+      order = (goes.order, tt);
     })
 
 -- what a whole run leaves
@@ -158,6 +171,7 @@ pub record Went (L : Ledger) (ts : List Turn) : Type 0 where
   pub extends : Extends L (ledger_after L ts)
   pub tells : All (λ (t : Told). Tells (ledger_after L ts) t.answered) (answers_of ts)
   pub each : All (λ (t : Told). IsLedger t.after) (answers_of ts)
+  pub order : IsInOrder L ts
 
 pub went : (L : Ledger) → IsLedger L → (ts : List Turn) → IsRun L ts → Went L ts
 went L s [] r = record {
@@ -165,6 +179,7 @@ went L s [] r = record {
   extends = Extends-refl L;
   tells = All-nil (λ (t : Told). Tells L t.answered);
   each = All-nil (λ (t : Told). IsLedger t.after);
+  order = tt;
 }
 went L s (t ∷ ts) r =
     let N = ledger_left L t.told in
@@ -179,6 +194,7 @@ went L s (t ∷ ts) r =
           (λ u h. still_tells N M rest.extends u.answered h) t.told here.tells)
           rest.tells;
       each = All-append (λ (u : Told). IsLedger u.after) t.told (answers_of ts) here.each rest.each;
+      order = (here.order, rest.order);
     }
 
 -- a copy of any fate but never was made
@@ -231,3 +247,7 @@ run_holds L s ts r =
 pub each_ledger : (L : Ledger) → IsLedger L → (ts : List Turn) → IsRun L ts →
     All (λ (t : Told). IsLedger t.after) (answers_of ts)
 each_ledger L s ts r = (went L s ts r).each
+
+-- and every pull hands copies out in order
+pub each_in_order : (L : Ledger) → IsLedger L → (ts : List Turn) → IsRun L ts → IsInOrder L ts
+each_in_order L s ts r = (went L s ts r).order

@@ -1,8 +1,8 @@
 -- How far a run has come, and how it ends from there.
 use Rattle.std.proofs.Common.{◌≡◌, ◌≤◌, ℕ, ◌+◌, ◌-◌, inl, inr, List, [], ◌∷◌, ◌++◌, length, Option, Some, None, refl, sym, ap, ◌∙◌, subst, append_assoc, append-nil, length-append, arith}
 use Rattle.std.specs.Option.{unwrap_or}
-use Rattle.std.specs.Prelude.{All, flat_map}
-use Rattle.std.specs.Io.KnownBytes.{Consumes, Appends, IsAtEnd}
+use Rattle.std.specs.Prelude.{flat_map}
+use Rattle.std.specs.Io.KnownBytes.{Consumes, Appends}
 use Rattle.std.proofs.lemmas.Grind.{flat_map-append}
 use Rattle.std.proofs.lemmas.List.Elements.{All-nil}
 use Rattle.sp_core.specs.Stands.{Stands}
@@ -24,7 +24,7 @@ use Rattle.sp_tape.specs.Run.{Turn, IsRun, answers_of, ledger_after, ledger_left
 use Rattle.sp_tape.specs.Runs.{Runs, Ends, IsBad, Wrote, longest_tape}
 use Rattle.sp_tape.specs.Serves.{Serves}
 use Rattle.sp_tape.proofs.Fronts.{refused_is_none}
-use Rattle.sp_tape.proofs.Holds.{each_ledger, run_holds}
+use Rattle.sp_tape.proofs.Holds.{each_in_order, each_ledger, run_holds}
 use Rattle.sp_tape.proofs.Known.{at_end, reads_nothing, reads_both}
 use Rattle.sp_tape.proofs.Pieces.{writes_nothing, writes_both}
 
@@ -111,6 +111,7 @@ ends lo lw ln wo wn status begun turns run more read fits ended wrote = record {
   run = run;
   sound = each_ledger first_ledger begun turns run;
   holds = run_holds first_ledger begun turns run;
+  order = each_in_order first_ledger begun turns run;
   rest = more ++ unwrap_or lw [];
   read = subst (λ zs. Left lo zs) (append_assoc (tape_of turns) more (unwrap_or lw []))
       (tape_left lo lw (tape_of turns ++ more) read);
@@ -243,6 +244,7 @@ module _ (left written : Option (List ℕ)) where
     run = tt;
     sound = All-nil (λ (t : Told). IsLedger t.after);
     holds = All-nil (λ (t : Told). AnswerHolds first_ledger t.answered);
+    order = tt;
     rest = unwrap_or left [];
     read = kept left;
     fits = omega arith;

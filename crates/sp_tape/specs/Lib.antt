@@ -6,6 +6,7 @@ pub mod Fates
 pub mod Gathering
 pub mod Head
 pub mod Numeral
+pub mod Order
 pub mod Parse
 pub mod Reading
 pub mod Run

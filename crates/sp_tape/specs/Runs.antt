@@ -8,6 +8,7 @@ use Rattle.sp_tape.specs.declared.status.Status.{Status}
 use Rattle.sp_tape.specs.declared.status.Status.TheVariants.{Done, Usage, BadTape, ReadFault, WriteFault, Memory}
 use Rattle.sp_tape.specs.Entry.{HasNoEntry}
 use Rattle.sp_tape.specs.Fates.{AnswerHolds}
+use Rattle.sp_tape.specs.Order.{IsInOrder}
 use Rattle.sp_tape.specs.Reading.{Left, IsRefused, IsReadWhileUnfinished}
 use Rattle.sp_tape.specs.Run.{Turn, IsRun, answers_of, ledger_after, tape_of, output_of}
 
@@ -76,11 +77,14 @@ pub record Runs (tape left written_old written_new : Option (List ℕ)) (status 
   -- the entries that were carried out, one after another, each on the ledger that the one before left
   pub turns : List Turn
   pub run : IsRun first_ledger turns
-  -- in the ledger after each answer every copy has one fate, and what is held is spooled and held by one bound flow
+  -- in the ledger after each answer every copy has one fate, what is held is spooled and held by one bound flow, on an
+  -- exclusive endpoint by the first, and no two flows hold copies of one partition of a partitioned queue
   pub sound : All (λ t. IsLedger t.after) (answers_of turns)
   -- each copy that an answer told of has one fate in the ledger at the end, what was told of it holds there,
   -- and each tally adds up
   pub holds : All (λ t. AnswerHolds (ledger_after first_ledger turns) t.answered) (answers_of turns)
+  -- of two copies of one partition that a flow can reach, no pull hands out the later without the earlier
+  pub order : IsInOrder first_ledger turns
   -- the tape is those entries and then the rest, where the source tells it
   pub rest : List ℕ
   pub read : Left tape (tape_of turns ++ rest)

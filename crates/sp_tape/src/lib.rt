@@ -13,6 +13,8 @@ pub mod reader;
 pub mod run_tape;
 #[cfg(test)]
 mod selector_tests;
+#[cfg(test)]
+mod sharing_tests;
 pub mod status;
 #[cfg(test)]
 mod tests;

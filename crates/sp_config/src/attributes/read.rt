@@ -1,7 +1,7 @@
 // Readers of the attributes, and what follows from them.
 ghost use Rattle.std.specs.Prelude.{◌≡◌, ◌≤◌};
 ghost use Rattle.std.specs.Option.{option_copied};
-ghost use Rattle.sp_config.specs.Attributes.{quota_of};
+ghost use Rattle.sp_config.specs.Attributes.{is_partitioned, quota_of};
 ghost use Rattle.sp_config.specs.Deadline.{deadline_of, lesser_bound};
 ghost use Rattle.sp_config.specs.Rejects.{rejects_for};
 
@@ -107,6 +107,13 @@ impl Attributes {
         ensures most { result ≤ 64 }
     {
         self.partition_count
+    }
+
+    /// Whether copies are spread over partitions: on a non-exclusive endpoint that has some.
+    pub fn is_partitioned(&self) -> bool
+        ensures { result ≡ is_partitioned self.now }
+    {
+        !self.access_type.is_exclusive() && self.partition_count > 0
     }
 
     /// What callers who aren't the owner may do.

@@ -6,31 +6,32 @@ ghost use Rattle.sp_copies.specs.Counts.{spooled_count};
 ghost use Rattle.sp_copies.specs.History.{held_by, attempts_of, is_held_by};
 ghost use Rattle.sp_core.specs.Decided.{bind_plan, verdict};
 ghost use Rattle.sp_core.specs.Stands.{Stands};
+ghost use Rattle.sp_endpoint.specs.Endpoints.{numbered};
 ghost use Rattle.sp_ledger.specs.Changes.{holds};
 ghost use Rattle.sp_ledger.specs.Ledger.{Ledger, message_of};
-ghost use Rattle.sp_ledger.specs.OnFlows.{bind, fits_kind, is_rebound, outdated, rebound, unbind, delivered, deliveries, may_take, pull, pulled, settle};
+ghost use Rattle.sp_ledger.specs.OnFlows.{bind, can_take, fits_kind, is_rebound, outdated, rebound, unbind, delivered, deliveries, pull, pulled, settle};
 ghost use Rattle.sp_ledger.specs.Step.{first_refusal, is_spent, rule, begun, unit_check};
 ghost use Rattle.std.specs.Option.{option_copied};
-ghost use Rattle.std.specs.Prelude.{◌≡◌, ◌&&◌, ◌==◌, ◌∷◌, [], IfOk, None, Some, filter, map, not, take, true, ◌<◌, ◌^◌, length, option_map};
+ghost use Rattle.std.specs.Prelude.{◌≡◌, ◌&&◌, ◌==◌, ◌∷◌, [], IfOk, None, Some, filter, map, nat_le, not, take, true, ◌<◌, ◌^◌, length, option_map};
 
 use crate::state::Core;
-use sp_access::flow::Flow;
 use sp_base::declined::Declined;
-use sp_base::items::Items;
+use sp_base::items::{Items, push_some};
 use sp_base::moment::Moment;
 use sp_base::name::Name;
-use sp_base::number::{CopyNo, FlowNo, MessageNo};
+use sp_base::number::{CopyNo, EndpointNo, FlowNo, MessageNo};
 use sp_base::refusal::{Kind, Refusal};
 use sp_copies::closed::{Closing, Fate};
 use sp_copies::made::MadeCopy;
 use sp_endpoint::endpoint::Endpoint;
 use sp_event::answer::{Delivery, Reply};
 use sp_event::request::{Outcome, PullCount};
-use sp_plan::asking::{SPENT, WINDOW, unknown_endpoint, unknown_flow};
+use sp_plan::asking::{SPENT, unknown_endpoint, unknown_flow};
 use sp_plan::change::Change;
 use sp_plan::flow_changes::{binding, handed_out, new_flow, unbinding};
 use sp_plan::plan::Plan;
-use sp_plan::published::{Published, delivered, find_message, first_taken, push_some};
+use sp_plan::published::{Published, delivered, find_message};
+use sp_plan::reach::first_taken;
 use sp_plan::topics::{fits_kind, is_exception, is_rebound, rebound};
 use sp_selector::selector::Selector;
 use sp_topic::subscription::Subscription;
@@ -70,16 +71,21 @@ impl Core {
         ensures { (L : Ledger) → Stands self.now L → result ≡ first_refusal (rule (not (fits_kind endpoint.now.kind topic.now)) (Refusal.BadSubscription 0)
             ∷ rule (is_rebound endpoint.now bound.now && not (flow_count L.flows endpoint.now.number == 0))
             (Refusal.InUse (flow_count L.flows endpoint.now.number) (spooled_count L.copies (Some endpoint.now.number)))
+            ∷ rule (nat_le endpoint.now.attributes.max_bind_count (flow_count L.flows endpoint.now.number))
+            (Refusal.BindLimit (flow_count L.flows endpoint.now.number) endpoint.now.attributes.max_bind_count)
             ∷ is_spent L.next.flow Kind.Flow ∷ is_spent L.next.unit Kind.Unit ∷ []) }
     {
         if !fits_kind(endpoint.kind, topic) {
             return Some(Refusal::BadSubscription { at: 0 });
         }
-        if is_rebound(endpoint, bound) && self.flow_count(endpoint.number) != 0 {
-            return Some(Refusal::InUse {
-                flows: self.flow_count(endpoint.number),
-                copies: self.spooled_count(endpoint.number),
-            });
+        let flows = self.flow_count(endpoint.number);
+        if is_rebound(endpoint, bound) && flows != 0 {
+            let copies = self.spooled_count(endpoint.number);
+            return Some(Refusal::InUse { flows, copies });
+        }
+        let max = endpoint.attributes.max_bind_count();
+        if flows >= max {
+            return Some(Refusal::BindLimit { bound: flows, max });
         }
         if self.flows.next().value() >= SPENT {
             return Some(Refusal::IdsSpent { kind: Kind::Flow });
@@ -175,7 +181,10 @@ impl Core {
         let Some(found) = self.find_flow(caller, flow) else {
             return Err(unknown_flow(flow));
         };
-        let copies = self.pulled(alloc, found, count.value(), moment)?;
+        let Some(endpoint) = self.find_number(found.endpoint) else {
+            return Err(unknown_flow(flow));
+        };
+        let copies = self.pulled(alloc, endpoint, flow, count.value(), moment)?;
         match self.pull_refusal(flow, copies.as_slice()) {
             Some(refusal) => Err(Declined::Refused(refusal)),
             None => Ok(self.pull_plan(alloc, flow, copies.as_slice())?),
@@ -202,35 +211,45 @@ impl Core {
         Ok(Plan { changes, reply })
     }
 
-    // As many copies as are asked for, and as the window leaves, of those that pass the selector.
+    fn find_number(&self, endpoint: EndpointNo) -> Option<&Endpoint>
+        ensures { (L : Ledger) → Stands self.now L → option_copied result ≡ numbered endpoint L.endpoints }
+    {
+        self.endpoints.find_number(endpoint)
+    }
+
+    // As many copies as are asked for, and as the window leaves, of those that the flow may take.
     fn pulled(
         &self,
         alloc: Global,
-        flow: &Flow,
+        endpoint: &Endpoint,
+        flow: FlowNo,
         count: u64,
         moment: Moment,
     ) -> Result<Items<MadeCopy>, AllocError>
-        ensures { IfOk result (λ copies. (L : Ledger) → Stands self.now L → copies ≡ pulled (begun moment L) flow.now count) }
+        ensures { IfOk result (λ copies. (L : Ledger) → Stands self.now L → copies ≡ pulled (begun moment L) endpoint.now flow count) }
     {
-        let held = self.held_count(flow.number);
-        let most = count.min(WINDOW.saturating_sub(held as u64));
+        let held = self.held_count(flow) as u64;
+        let window = endpoint.attributes.max_delivered_unacked_msgs_per_flow();
+        let most = count.min(window.saturating_sub(held));
         let later = self.later(moment);
-        let waiting = self.copies.waiting(alloc, flow.endpoint, later)?;
-        self.first_taken(alloc, flow, waiting.as_slice(), most as usize)
+        let waiting = self.copies.waiting(alloc, endpoint.number, later)?;
+        self.first_taken(alloc, endpoint, flow, waiting.as_slice(), most as usize)
     }
 
     // The first of the copies that the flow may take.
     fn first_taken(
         &self,
         alloc: Global,
-        flow: &Flow,
+        endpoint: &Endpoint,
+        flow: FlowNo,
         copies: &[MadeCopy],
         most: usize,
     ) -> Result<Items<MadeCopy>, AllocError>
-        ensures { IfOk result (λ taken. (L : Ledger) → Stands self.now L → taken ≡ take most (filter (may_take L flow.now) copies.now)) }
+        ensures { IfOk result (λ taken. (L : Ledger) → Stands self.now L → taken ≡ take most (filter (can_take L endpoint.now flow) copies.now)) }
     {
         let messages = self.messages.as_slice();
-        first_taken(alloc, messages, &flow.selector, copies, most)
+        let (flows, store) = (&self.flows, &self.copies);
+        first_taken(alloc, flows, store, messages, endpoint, flow, copies, most)
     }
 
     fn held_count(&self, flow: FlowNo) -> usize

@@ -165,7 +165,7 @@ impl Core {
     {
         let number = self.next_message;
         let told = told_copies(alloc, into, self.copies.next())?;
-        let shares = all_shares(alloc, into, number, message.size())?;
+        let shares = all_shares(alloc, into, message, number)?;
         let message = message.copy(alloc)?;
         let reply = Reply::Publish {
             message: number,

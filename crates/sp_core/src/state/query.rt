@@ -1,13 +1,12 @@
 // Queries.
 ghost use Rattle.sp_base.specs.Name.{is_caller};
 ghost use Rattle.sp_copies.specs.Counts.{used_in};
-ghost use Rattle.sp_copies.specs.History.{fate_of};
 ghost use Rattle.sp_core.specs.Asked.{IsAnswered};
 ghost use Rattle.sp_core.specs.Stands.{Stands};
-ghost use Rattle.sp_ledger.specs.Answer.{copy_reply, details_of, is_kept};
+ghost use Rattle.sp_ledger.specs.Answer.{copy_reply};
 ghost use Rattle.sp_ledger.specs.Ledger.{Ledger};
 ghost use Rattle.sp_ledger.specs.Tally.{tally_in};
-ghost use Rattle.std.specs.Prelude.{◌≡◌, if◌then◌else◌, IfOk, None, Some, true};
+ghost use Rattle.std.specs.Prelude.{◌≡◌, IfOk, true};
 
 use crate::state::Core;
 use sp_base::declined::Declined;
@@ -15,10 +14,10 @@ use sp_base::moment::Moment;
 use sp_base::name::Name;
 use sp_base::number::{CopyNo, EndpointNo};
 use sp_base::refusal::Refusal;
-use sp_copies::closed::Fate;
-use sp_event::answer::{CopyDetails, Reply, Tally};
+use sp_event::answer::{Reply, Tally};
 use sp_event::request::Query;
-use sp_plan::asking::is_kept;
+use sp_plan::asking::unknown_endpoint;
+use sp_plan::told::{bound_flows, copy_reply};
 use std::alloc::{AllocError, Global};
 
 impl Core {
@@ -37,6 +36,7 @@ impl Core {
         match q {
             Query::Tally { endpoint } => self.tally_of(alloc, now, from, endpoint),
             Query::Copy { copy } => Ok(self.copy_report(*copy)),
+            Query::Flows { endpoint } => self.flows_of(alloc, now, from, endpoint),
         }
     }
 
@@ -53,8 +53,7 @@ impl Core {
             return Ok(Reply::Tally(self.tally(alloc, None)?));
         };
         let Some(found) = self.find(name) else {
-            let name = name.text(alloc)?;
-            return Err(Declined::Refused(Refusal::UnknownEndpoint { name }));
+            return Err(unknown_endpoint(name.text(alloc)?));
         };
         Ok(Reply::Tally(self.tally(alloc, Some(found.number))?))
     }
@@ -83,39 +82,23 @@ impl Core {
     fn copy_report(&self, copy: CopyNo) -> Reply
         ensures { (L : Ledger) → Stands self.now L → result ≡ copy_reply L.copies copy }
     {
-        let details = self.kept_details(copy);
-        Reply::Copy {
-            copy,
-            fate: self.fate(copy),
-            details,
-        }
+        copy_reply(&self.copies, copy)
     }
 
-    fn kept_details(&self, copy: CopyNo) -> Option<CopyDetails>
-        ensures { (L : Ledger) → Stands self.now L → result ≡ (if is_kept (fate_of L.copies copy) then details_of L.copies copy else None) }
+    fn flows_of(
+        &self,
+        alloc: Global,
+        moment: Moment,
+        caller: &Name,
+        name: &Name,
+    ) -> Result<Reply, Declined<Refusal>>
+        ensures { IsAnswered self.now moment caller.now (Query.Flows name.now) result }
     {
-        if !is_kept(self.fate(copy)) {
-            return None;
-        }
-        self.details(copy)
-    }
-
-    fn fate(&self, copy: CopyNo) -> Fate
-        ensures { (L : Ledger) → Stands self.now L → result ≡ fate_of L.copies copy }
-    {
-        self.copies.fate(copy)
-    }
-
-    fn details(&self, copy: CopyNo) -> Option<CopyDetails>
-        ensures { (L : Ledger) → Stands self.now L → result ≡ details_of L.copies copy }
-    {
-        match &self.copies.copy(copy) {
-            None => None,
-            Some(made) => Some(CopyDetails {
-                endpoint: made.endpoint,
-                message: made.message,
-                attempts: self.copies.attempts(copy),
-            }),
-        }
+        let Some(found) = self.find(name) else {
+            return Err(unknown_endpoint(name.text(alloc)?));
+        };
+        let flows = bound_flows(alloc, &self.flows, &self.copies, found)?;
+        let endpoint = found.name.copy(alloc)?;
+        Ok(Reply::Flows { endpoint, flows })
     }
 }

@@ -66,7 +66,11 @@ request 2|{"op":"settle","flow":1,"copy":1,"x":1}
 request 4|{"op":"settle","flow":1,"copy":1,"outcome":"Accepted"}
 request 4|{"op":"settle","flow":1,"copy":1,"outcome":true}
 request 2|{"op":"copy","endpoint":"q1"}
-request 3|{"op":"copy","copy":1,"flow":1}"#;
+request 3|{"op":"copy","copy":1,"flow":1}
+flows q1|{"op":"flows","endpoint":"q1"}
+request 2|{"op":"flows"}
+request 3|{"op":"flows","endpoint":"q1","flow":1}
+request 4|{"op":"flows","endpoint":"q 1"}"#;
 
 #[test]
 fn fields_of_flows(rt: HostRuntime) -> Result<(), Fail> {

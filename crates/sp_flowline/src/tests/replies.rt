@@ -5,11 +5,11 @@ use sp_base::name::Name;
 use sp_base::number::{CopyNo, EndpointNo, FlowNo, MessageNo};
 use sp_base::refusal::Refusal;
 use sp_copies::closed::{Cause, Fate};
-use sp_event::answer::{Answered, CopyDetails, CopyFate, Delivery, Reply};
+use sp_event::answer::{Answered, BoundFlow, CopyDetails, CopyFate, Delivery, Reply};
 use sp_message::message::Dest;
 use sp_message::payload::Payload;
 use sp_message::property::Properties;
-use std::alloc::Global;
+use std::alloc::{AllocError, Global};
 use std::test::Fail;
 
 #[test]
@@ -166,6 +166,51 @@ fn a_copy_is_told_with_its_details(rt: HostRuntime) -> Result<(), Fail> {
             details,
         };
         assert!(rt; shows(alloc, Answered::Gave(reply), unit, text)?);
+    }
+    Ok(())
+}
+
+// The flows 1, 2 and so on of these callers, who hold so many copies; the first flow is active.
+fn bound(alloc: Global, callers: &[(&str, u64)]) -> Result<Option<Items<BoundFlow>>, AllocError> {
+    let mut flows = Vec::new(alloc);
+    let mut number = 0u32;
+    for (caller, held) in callers {
+        number = number.saturating_add(1);
+        let Ok(caller) = Name::read(alloc, caller.as_bytes()) else {
+            return Ok(None);
+        };
+        flows.push(BoundFlow {
+            flow: FlowNo::of(number as u64),
+            caller,
+            held: *held,
+            active: number == 1,
+        })?;
+    }
+    Ok(Some(Items::from_vec(flows)))
+}
+
+#[test]
+fn the_flows_of_an_endpoint_stand_in_their_order(rt: HostRuntime) -> Result<(), Fail> {
+    let alloc = rt.alloc();
+    for (callers, text) in [
+        (
+            &[][..],
+            r#"{"endpoint":"q1","flows":[],"ok":"flows","unit":7}"#,
+        ),
+        (
+            &[("shop", 2)][..],
+            r#"{"endpoint":"q1","flows":[{"active":true,"caller":"shop","flow":1,"held":2}],"ok":"flows","unit":7}"#,
+        ),
+        (
+            &[("shop", 0), ("billing", 1)][..],
+            r#"{"endpoint":"q1","flows":[{"active":true,"caller":"shop","flow":1,"held":0},{"active":false,"caller":"billing","flow":2,"held":1}],"ok":"flows","unit":7}"#,
+        ),
+    ] {
+        let reply = Reply::Flows {
+            endpoint: Name::read(alloc, b"q1")?,
+            flows: bound(alloc, callers)?.ok_or("no name")?,
+        };
+        assert!(rt; shows(alloc, Answered::Gave(reply), 7, text)?);
     }
     Ok(())
 }

@@ -55,6 +55,7 @@ fn asked(alloc: Global, ask: &Ask) -> Result<String, AllocError> {
         Ask::Do(Event::Pull { count, .. }) => format!(in alloc; "{}", count.value()),
         Ask::Do(Event::Settle { copy, .. }) => format!(in alloc; "{}", copy.value()),
         Ask::Look(Query::Copy { copy }) => format!(in alloc; "{}", copy.value()),
+        Ask::Look(Query::Flows { endpoint }) => format!(in alloc; "flows {}", endpoint.as_str()),
         Ask::Look(Query::Tally { endpoint: None }) => String::from_str(alloc, "all"),
         Ask::Look(
             Query::Tally {

@@ -1,13 +1,12 @@
 -- Where a request publishes to, by its method and its target.
-use Rattle.std.specs.Prelude.{ℕ, ◌==◌, Bool, not, List, drop, codes, bytes_eq, nat_eq, Option, Some, None, Result, Ok, Err, if◌then◌else◌}
+use Rattle.std.specs.Prelude.{ℕ, ◌==◌, Bool, not, List, drop, codes, bytes_eq, nat_eq, Option, Some, None, Result, Ok, if◌then◌else◌}
 use Rattle.std.specs.List.{before_first, after_first, list_any, starts_with}
 use Rattle.percent_encoding.specs.Percent.{percent_decode}
 use Rattle.sp_base.specs.Name.{is_name}
-use Rattle.sp_base.specs.Topic.{topic_fault}
 use Rattle.sp_base.specs.declared.refusal.Refusal.{Refusal}
-use Rattle.sp_base.specs.declared.refusal.Refusal.TheVariants.{BadTopic}
+use Rattle.sp_message.specs.Destination.{topic_from}
 use Rattle.sp_message.specs.declared.message.Dest.{Dest}
-use Rattle.sp_message.specs.declared.message.Dest.TheVariants.{Topic, Queue}
+use Rattle.sp_message.specs.declared.message.Dest.TheVariants.{Queue}
 
 abbrev pub is_question_mark : ℕ → Bool
 is_question_mark b = b == 63
@@ -22,15 +21,6 @@ query_of target = after_first is_question_mark target
 -- the query has a word: a byte that isn't the `&` between words
 abbrev pub has_words : List ℕ → Bool
 has_words query = list_any (λ b. not (b == 38)) query
-
--- a topic, unless it has a fault
-abbrev pub unless_fault : Option ℕ → List ℕ → Result Dest Refusal
-unless_fault None text = Ok (Topic text)
-unless_fault (Some at) text = Err (BadTopic at)
-
--- the topic that a text is, or why it is none
-abbrev pub topic_from : List ℕ → Result Dest Refusal
-topic_from text = unless_fault (topic_fault text) text
 
 -- the queue of this name, if it is a name
 abbrev pub queue_from : List ℕ → Option (Result Dest Refusal)

@@ -1,6 +1,7 @@
 -- The publish that a request is, or why it is refused.
 use Rattle.std.specs.Prelude.{ℕ, List, Result, Ok, Err, if◌then◌else◌}
 use Rattle.std.specs.Option.{ok_or}
+use Rattle.sp_base.specs.Parts.{and_then}
 use Rattle.sp_base.specs.declared.refusal.Refusal.{Refusal}
 use Rattle.sp_base.specs.declared.refusal.Refusal.TheVariants.{BadRequest, DirectMode}
 use Rattle.sp_message.specs.declared.message.Dest.{Dest}
@@ -11,11 +12,6 @@ use Rattle.sp_rest.specs.declared.publish.headers.Headers.{Headers}
 use Rattle.sp_rest.specs.Publish.Destination.{dest_for, query_of, has_words}
 use Rattle.sp_rest.specs.Publish.Headers.{headers_in}
 use Rattle.sp_rest.specs.Wire.Parts.{Request}
-
--- one part and then what is read with it; the first refusal is the one
-abbrev pub and_then : {A B : Type 0} → Result A Refusal → (A → Result B Refusal) → Result B Refusal
-and_then (Ok value) rest = rest value
-and_then (Err refusal) rest = Err refusal
 
 -- the message to a destination
 abbrev pub message_to : Dest → Headers → List ℕ → Message

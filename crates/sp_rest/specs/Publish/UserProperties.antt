@@ -7,7 +7,7 @@ use Rattle.sp_message.specs.declared.property.Property.{Property}
 use Rattle.sp_message.specs.declared.value.Value.{Value}
 use Rattle.sp_message.specs.declared.value.Value.TheVariants as values
 use Rattle.sp_message.specs.Decimal.{fixed_of, has_minus, whole_of}
-use Rattle.sp_message.specs.Property.{are_properties, comes_before}
+use Rattle.sp_message.specs.Property.{comes_before, kept}
 use Rattle.sp_rest.specs.declared.publish.suffix.ValueKind.{ValueKind}
 use Rattle.sp_rest.specs.declared.publish.suffix.ValueKind.TheVariants.{Text, Whole, Bool as Truth, Fixed}
 use Rattle.sp_rest.specs.declared.wire.request.Field.{Field}
@@ -55,10 +55,6 @@ placed p ps = insert ps (position_or_len (comes_before p) ps) p
 -- the properties so far with the one that a field gives
 abbrev pub with_field : Option (List Property) → Field → Option (List Property)
 with_field before field = option_and_then (λ ps. option_map (λ p. placed p ps) (property_in field)) before
-
--- properties that keep the rules of a message's
-abbrev pub kept : List Property → Option (List Property)
-kept ps = if are_properties ps then Some ps else None
 
 -- the properties that the fields give, in the order of their names
 abbrev pub properties_in : List Field → Option (List Property)

@@ -2,7 +2,8 @@
 ghost use Rattle.std.specs.Prelude.{◌≡◌, ◌≤◌, length, position, IfOk};
 ghost use Rattle.std.specs.List.{position_or_len};
 ghost use Rattle.percent_encoding.specs.Percent.{percent_decode};
-ghost use Rattle.sp_rest.specs.Publish.Destination.{is_question_mark, path_of, query_of, has_words, topic_from, queue_from, dest_at, dest_for};
+ghost use Rattle.sp_message.specs.Destination.{topic_from};
+ghost use Rattle.sp_rest.specs.Publish.Destination.{is_question_mark, path_of, query_of, has_words, queue_from, dest_at, dest_for};
 
 use percent_encoding::percent_decode;
 use sp_base::name::{Name, NameError};

@@ -2,8 +2,8 @@ use Rattle.std.proofs.Common.{sym, ap, ◌∙◌}
 use Rattle.std.specs.Option.{option_map}
 use Rattle.sp_base.specs.declared.refusal.Refusal.TheVariants.{BadTopic}
 use Rattle.sp_message.specs.declared.message.Dest.TheVariants.{Topic}
-use Rattle.sp_json.specs.Parts.{unless}
-use Rattle.sp_flowline.specs.Publishes.{topic_from}
+use Rattle.sp_base.specs.Parts.{unless}
+use Rattle.sp_message.specs.Destination.{topic_from}
 use Rattle.sp_flowline.proofs.publishes.topic_from.Goals as goal
 
 pub returns-in-Err-Bad : goal.returns-in-Err-Bad

@@ -2,7 +2,7 @@ use Rattle.std.proofs.Common.{sym, ap, ◌∙◌}
 use Rattle.std.specs.Option.{option_map}
 use Rattle.sp_base.specs.declared.refusal.Refusal.TheVariants.{BadSubscription}
 use Rattle.sp_json.specs.Subscriptions.{subscription_from}
-use Rattle.sp_json.specs.Parts.{unless}
+use Rattle.sp_base.specs.Parts.{unless}
 use Rattle.sp_json.proofs.subscriptions.subscription_from.Goals as goal
 
 pub returns-in-Err-Bad : goal.returns-in-Err-Bad

@@ -14,5 +14,6 @@ returns c =
     let s3 : string_bytes c.push_str-3.new.self ≡ ((front ++ name) ++ codes ": ") ++ value = search rules in
     let s4 : string_bytes c.push_str-4.new.self ≡ (((front ++ name) ++ codes ": ") ++ value) ++ codes "; type=" = search rules in
     let s5 : string_bytes c.push_str-5.new.self ≡ ((((front ++ name) ++ codes ": ") ++ value) ++ codes "; type=") ++ word = search rules in
-    let s6 : string_bytes c.push_str-6.new.self ≡ (((((front ++ name) ++ codes ": ") ++ value) ++ codes "; type=") ++ word) ++ codes "\r\n" = search rules in
+    let s6 : string_bytes c.push_str-6.new.self ≡ (((((front ++ name) ++ codes ": ") ++ value) ++ codes "; type=") ++ word)
+    ++ codes "\r\n" = search rules in
     s6

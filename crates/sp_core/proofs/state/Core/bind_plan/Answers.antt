@@ -4,7 +4,7 @@ use Rattle.sp_copies.specs.declared.closed.Closing.TheVariants.{Discarded}
 use Rattle.sp_endpoint.specs.Endpoint.{EndpointView}
 use Rattle.sp_event.specs.declared.answer.Reply.TheVariants as replies
 use Rattle.sp_ledger.specs.Changes.{binds, closes}
-use Rattle.sp_ledger.specs.OnFlows.{new_flow, new_topic, outdated}
+use Rattle.sp_ledger.specs.OnFlows.{new_flow, rebinding, outdated}
 use Rattle.std.proofs.Common.{ap, ◌∙◌}
 use Rattle.std.specs.Prelude.{List, [], length, map, ◌++◌, ◌∷◌, ◌≡◌}
 use Rattle.sp_core.proofs.state.Core.bind_plan.Goals as goal
@@ -21,6 +21,6 @@ returns c L s =
     let name : c.in_ok-copy.field-0 ≡ e.name = c.in_ok-copy.ensures ∙ ap (λ (x : EndpointView). x.name) c.endpoint.view_is in
     λ i. record {
       changes = (c.in_ok-changes.ensures
-          ∙ (λ j. map (λ (k : MadeCopy). closes k.number (Discarded TopicChanged)) (old j) ++ new_topic e bound ++ binds (flow j) ∷ [])) i;
+          ∙ (λ j. map (λ (k : MadeCopy). closes k.number (Discarded TopicChanged)) (old j) ++ rebinding e bound ++ binds (flow j) ∷ [])) i;
       reply = replies.Bind (name i) (number i) (many i);
     }

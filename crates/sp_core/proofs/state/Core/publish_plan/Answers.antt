@@ -29,7 +29,7 @@ returns c =
     let first : c.next.result ≡ L.copies.next = c.next.ensures L.copies t.copies in
     let told = c.in_ok-told.ensures ∙ ap (λ (n : ℕ). told_copies n (map (λ e. e.now) c.args.into.now)) first in
     let shares = c.in_ok-shares.ensures
-    ∙ ((λ j. map (λ e. share_for (number j) (c.size.ensures.size j) e.now) c.args.into.now)
-    ∙ map_twice (share_for L.next.message (c.size.ensures.size 1)) (λ e. e.now) c.args.into.now) in
+    ∙ ((λ j. map (λ e. share_for c.args.message.now (number j) e.now) c.args.into.now)
+    ∙ map_twice (share_for c.args.message.now L.next.message) (λ e. e.now) c.args.into.now) in
     is ∙ (λ i. record { changes = publishes (c.in_ok-message.ensures i) (shares i) ∷ []; reply = replies.Publish (number i) (told i) }))
     c.of_one.ensures

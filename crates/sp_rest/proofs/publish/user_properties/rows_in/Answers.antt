@@ -10,7 +10,8 @@ returns-in-None c =
     let f = c.field-item.result in
     let i = c.loop-field.field-index in
     let rest = drop (i + 1) c.args.fields.now in
-    let front : drop i c.args.fields.now ≡ f ∷ rest = drop_more c.args.fields.now i f c.loop-field-test.true ∙ ap (λ (x : Field). x ∷ rest) (sym c.field-item.is) in
+    let front : drop i c.args.fields.now ≡ f ∷ rest = drop_more c.args.fields.now i f c.loop-field-test.true
+    ∙ ap (λ (x : Field). x ∷ rest) (sym c.field-item.is) in
     let named : is_user_property f ≡ true = search rules in
     let none : property_in f ≡ None = search rules in
     none_after f rest _ c.loop-field.rows.items front named none ∙ c.loop-field.invariant

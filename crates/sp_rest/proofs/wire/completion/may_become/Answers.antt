@@ -17,4 +17,5 @@ returns c =
     let fields : NoFieldsEnd c.args.bytes.now = search rules in
     let version : NoVersionEnd c.args.bytes.now = search rules in
     let target : NoTarget c.args.bytes.now = search rules in
-    never_request c.args.bytes.now (never_by c.args.bytes.now c.requires.unread (λ ends. let is = tests_target c.args.bytes.now ends in absurd (cc (is, other))) fields version target)
+    never_request c.args.bytes.now (never_by c.args.bytes.now c.requires.unread (λ ends. let is = tests_target c.args.bytes.now ends in
+    absurd (cc (is, other))) fields version target)
