@@ -2,8 +2,10 @@ pub mod Acted
 pub mod Calls
 pub mod Contents
 pub mod Disk
+pub mod Everywhere
 pub mod Images
 pub mod Lending
+pub mod Looked
 pub mod MemoryDisk
 pub mod Moments
 pub mod Picks

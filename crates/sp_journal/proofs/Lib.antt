@@ -1,0 +1,10 @@
+pub mod Births
+pub mod Closes
+pub mod GateForms
+pub mod Heads
+pub mod OneFate
+pub mod OneReading
+pub mod Opens
+pub mod States
+pub mod UnitSteps
+pub mod Walks

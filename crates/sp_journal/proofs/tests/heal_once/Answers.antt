@@ -1,0 +1,11 @@
+use Rattle.sp_journal.proofs.tests.heal_once.Goals as goal
+
+pub again-requires-clause-rests : goal.again-requires-clause-rests
+again-requires-clause-rests g c =
+    let was = c.requires.stands in
+    (was.1, c.in-Ok.ensures.healed was.0 was.1 was.2)
+
+pub heal_twice-requires-clause-stands : goal.heal_twice-requires-clause-stands
+heal_twice-requires-clause-stands g c =
+    let was = c.requires.stands in
+    (was.0, was.1, c.in-Err.ensures.kept was.0 was.1 was.2)
