@@ -44,10 +44,10 @@ count-but-for p q copy h (c ∷ cs) = rw (count-cons p c cs, count-cons q c cs, 
     one rest false e = rw e (omega (arith, one-le (q c) (p c) (h c e)))
 
 -- the parts of a list that rises
-head_below : (c : MadeCopy) (cs : List MadeCopy) → AllPairs (λ (a b : MadeCopy). a.number < b.number) (c ∷ cs) → All (λ (b : MadeCopy). c.number < b.number) cs
+pub head_below : (c : MadeCopy) (cs : List MadeCopy) → AllPairs (λ (a b : MadeCopy). a.number < b.number) (c ∷ cs) → All (λ (b : MadeCopy). c.number < b.number) cs
 head_below c cs p k d lt = p 0 (suc k) d (omega arith) (omega arith)
 
-tail_rises : (c : MadeCopy) (cs : List MadeCopy) → AllPairs (λ (a b : MadeCopy). a.number < b.number) (c ∷ cs) → AllPairs (λ (a b : MadeCopy). a.number < b.number) cs
+pub tail_rises : (c : MadeCopy) (cs : List MadeCopy) → AllPairs (λ (a b : MadeCopy). a.number < b.number) (c ∷ cs) → AllPairs (λ (a b : MadeCopy). a.number < b.number) cs
 tail_rises c cs p i j d lt le = p (suc i) (suc j) d (omega arith) (omega arith)
 
 none-above : (n : ℕ) (cs : List MadeCopy) → All (λ (b : MadeCopy). n < b.number) cs → count_by (λ c. c.number == n) cs ≡ 0

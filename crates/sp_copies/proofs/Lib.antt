@@ -1,11 +1,14 @@
 pub mod Changes
+pub mod Chosen
 pub mod ClosedSound
 pub mod Counting
+pub mod Deadlines
 pub mod Examples
 pub mod HeldSound
 pub mod KeptLemmas
 pub mod MadeSound
 pub mod Marks
+pub mod Others
 pub mod Places
 pub mod ReturnedSound
 pub mod Room

@@ -15,7 +15,7 @@ use Rattle.sp_copies.specs.History.{History, is_made, is_closed, is_spooled, is_
 use Rattle.sp_copies.specs.Sound.{IsSoundHistory}
 
 -- one more copy in an endpoint's used bytes
-used-push : (made : List MadeCopy) (closed : List ClosedCopy) (e : ℕ) (c : MadeCopy) → sum_by (λ c. c.size) (filter (is_open_in closed e) (made ++ c ∷ [])) ≡ sum_by (λ c. c.size) (filter (is_open_in closed e) made) + cond (is_open_in closed e c) c.size 0
+pub used-push : (made : List MadeCopy) (closed : List ClosedCopy) (e : ℕ) (c : MadeCopy) → sum_by (λ c. c.size) (filter (is_open_in closed e) (made ++ c ∷ [])) ≡ sum_by (λ c. c.size) (filter (is_open_in closed e) made) + cond (is_open_in closed e c) c.size 0
 used-push made closed e c = rw (filter-append {X = MadeCopy} (is_open_in closed e) made (c ∷ []), sum_by-append {X = MadeCopy} (λ c. c.size) (filter (is_open_in closed e) made) (filter (is_open_in closed e) (c ∷ []))) (tail (is_open_in closed e c))
   where
     tail : (b : Bool) → sum_by (λ (c : MadeCopy). c.size) (filter (is_open_in closed e) made) + sum_by (λ (c : MadeCopy). c.size) (cond b (c ∷ []) []) ≡ sum_by (λ (c : MadeCopy). c.size) (filter (is_open_in closed e) made) + cond b c.size 0

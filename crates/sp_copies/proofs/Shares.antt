@@ -128,7 +128,7 @@ made_below (c ∷ cs) next copy all made =
     one first later true h t = let e : c.number ≡ copy = eqb-true _ _ h in omega (arith, e, first)
     one first later false h t = later t
 
-next_open : (H : History) → IsSoundHistory H → is_closed H.closed H.next ≡ false
+pub next_open : (H : History) → IsSoundHistory H → is_closed H.closed H.next ≡ false
 next_open H s =
     list_any_none {X = ClosedCopy} (λ x. x.copy == H.next) H.closed
     (All-weaker (λ (x : ClosedCopy). IsTrue (is_made H.made x.copy)) (λ (x : ClosedCopy). (x.copy == H.next) ≡ false)

@@ -82,8 +82,20 @@ abbrev pub is_free : History → ℕ → Bool
 is_free H copy = is_spooled H copy && not (is_held H.held copy)
 
 -- the copies that a flow holds, in order of number
+abbrev pub held_copies : History → ℕ → List MadeCopy
+held_copies H flow = filter (λ c. is_held_by H.held flow c.number) H.made
+
+-- their numbers
 abbrev pub held_by : History → ℕ → List ℕ
-held_by H flow = map (λ c. c.number) (filter (λ c. is_held_by H.held flow c.number) H.made)
+held_by H flow = map (λ c. c.number) (held_copies H flow)
+
+-- a copy as it was made, where the flow holds it
+abbrev pub held_copy : History → ℕ → ℕ → Option MadeCopy
+held_copy H flow copy = if is_held_by H.held flow copy then copy_of H.made copy else None
+
+-- the spooled copies of an endpoint that no flow holds, in order of number
+abbrev pub free_copies : History → ℕ → List MadeCopy
+free_copies H endpoint = filter (λ c. not (is_held H.held c.number)) (open_copies H endpoint)
 
 -- whether a deadline has come at a moment
 abbrev pub has_come : Option ℕ → ℕ → Bool

@@ -1,4 +1,5 @@
 pub mod Counts
+pub mod Due
 pub mod History
 pub mod Inside
 pub mod Kept

@@ -95,6 +95,38 @@ pub fn held_by(
         .collect(alloc)
 }
 
+/// The same as they were made.
+pub fn held_copies(
+    alloc: Global,
+    made: &[MadeCopy],
+    held: &[HeldCopy],
+    flow: FlowNo,
+) -> Result<Vec<MadeCopy>, AllocError>
+    ensures { IfOk result (λ copies. copies.items ≡ filter (λ c. is_held_by held.now flow c.number) made.now) }
+{
+    made.iter()
+        .filter(|c| is_held_by(held, flow, c.number))
+        .copied()
+        .collect(alloc)
+}
+
+/// The spooled copies of an endpoint that no flow holds.
+pub fn free_in(
+    alloc: Global,
+    made: &[MadeCopy],
+    closed: &[ClosedCopy],
+    held: &[HeldCopy],
+    endpoint: EndpointNo,
+) -> Result<Vec<MadeCopy>, AllocError>
+    ensures { IfOk result (λ copies. copies.items ≡ filter (λ c. not (is_held held.now c.number)) (filter (is_open_in closed.now endpoint) made.now)) }
+{
+    made.iter()
+        .filter(|c| c.endpoint == endpoint && !has_closing(closed, c.number))
+        .filter(|c| !is_held(held, c.number))
+        .copied()
+        .collect(alloc)
+}
+
 /// The spooled copies of an endpoint that no flow holds and whose deadline hasn't come.
 pub fn waiting(
     alloc: Global,
@@ -113,7 +145,7 @@ pub fn waiting(
         .collect(alloc)
 }
 
-fn has_come(deadline: Option<u64>, moment: Moment) -> bool
+pub fn has_come(deadline: Option<u64>, moment: Moment) -> bool
     ensures { result ≡ has_come deadline moment }
 {
     match deadline {

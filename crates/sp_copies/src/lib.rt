@@ -4,6 +4,7 @@
 pub mod closed;
 pub mod copies;
 mod counts;
+mod due;
 mod fates;
 pub mod held;
 mod holders;

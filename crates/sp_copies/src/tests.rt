@@ -2,7 +2,7 @@ ghost use Rattle.std.specs.Prelude.{◌≡◌};
 
 use crate::closed::{Cause, CauseCount, Closing, Fate};
 use crate::copies::Copies;
-use crate::made::{NewCopy, Origin, Share};
+use crate::made::{MadeCopy, NewCopy, Origin, Share};
 use sp_base::moment::Moment;
 use sp_base::number::{CopyNo, EndpointNo, FlowNo, MessageNo};
 use std::alloc::Global;
@@ -210,5 +210,86 @@ fn a_copy_that_is_not_spooled_is_closed_at_once(rt: HostRuntime) -> Result<(), F
         count: 1,
     };
     assert_eq!(rt; causes.as_slice(), [counted].as_slice());
+    Ok(())
+}
+
+// Whether the first `most` copies that are due at a moment are these, in their order.
+fn are_due(
+    alloc: Global,
+    copies: &Copies,
+    moment: u64,
+    most: usize,
+    expected: &[u64],
+) -> Result<bool, Fail> {
+    let moment = Moment::new(moment).ok_or("no moment")?;
+    let found = copies.due(alloc, moment, most)?;
+    let numbers: Vec<u64> = found
+        .as_slice()
+        .iter()
+        .map(|c| c.number.value())
+        .collect(alloc)?;
+    let first = copies.first_due(moment).map(|c| c.value());
+    Ok(numbers.as_slice() == expected && first == expected.first().copied())
+}
+
+// Copies 1 to 6 of a queue, of which flow 7 holds the fifth, and the sixth was accepted.
+fn with_deadlines(rt: &impl Abort, copies: &mut Copies, queue: EndpointNo) {
+    let _first = make(rt, copies, queue, Some(3000));
+    let _lasting = make(rt, copies, queue, None);
+    let _third = make(rt, copies, queue, Some(1000));
+    let _fourth = make(rt, copies, queue, Some(1000));
+    let held = make(rt, copies, queue, Some(2000));
+    let accepted = make(rt, copies, queue, Some(500));
+    take(rt, copies, held, Step::Hold(FlowNo::of(7)));
+    take(rt, copies, accepted, Step::Close(Closing::Accepted));
+}
+
+#[test]
+fn due_copies_come_in_order_of_deadline_and_number(rt: HostRuntime) -> Result<(), Fail> {
+    let alloc = rt.alloc();
+    let mut copies = Copies::new(alloc, 1);
+    copies.reserve(6)?;
+    with_deadlines(&rt, &mut copies, EndpointNo::of(1));
+    assert!(rt; are_due(alloc, &copies, 999, 10, &[])?);
+    assert!(rt; are_due(alloc, &copies, 1000, 10, &[3, 4])?);
+    assert!(rt; are_due(alloc, &copies, 2999, 10, &[3, 4])?);
+    assert!(rt; are_due(alloc, &copies, 3000, 10, &[3, 4, 1])?);
+    assert!(rt; are_due(alloc, &copies, 3000, 2, &[3, 4])?);
+    Ok(())
+}
+
+// The fifth of them, as it was made.
+fn fifth(queue: EndpointNo) -> MadeCopy {
+    MadeCopy {
+        number: CopyNo::of(5),
+        endpoint: queue,
+        message: MessageNo::of(1),
+        size: 64,
+        origin: Origin::Published,
+        deadline: Some(2000),
+        partition: 0,
+    }
+}
+
+#[test]
+fn held_and_free_copies_as_they_were_made(rt: HostRuntime) -> Result<(), Fail> {
+    let alloc = rt.alloc();
+    let queue = EndpointNo::of(1);
+    let mut copies = Copies::new(alloc, 1);
+    copies.reserve(6)?;
+    with_deadlines(&rt, &mut copies, queue);
+    let seven = FlowNo::of(7);
+    let number = CopyNo::of(5);
+    let held = copies.held_copies(alloc, seven)?;
+    assert_eq!(rt; held.as_slice(), [fifth(queue)].as_slice());
+    assert_eq!(rt; copies.held_copy(seven, number), Some(fifth(queue)));
+    assert_eq!(rt; copies.held_copy(FlowNo::of(8), number), None);
+    let free = copies.free_in(alloc, queue)?;
+    let numbers: Vec<u64> = free
+        .as_slice()
+        .iter()
+        .map(|c| c.number.value())
+        .collect(alloc)?;
+    assert_eq!(rt; numbers.as_slice(), [1, 2, 3, 4].as_slice());
     Ok(())
 }

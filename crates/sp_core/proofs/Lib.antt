@@ -3,5 +3,5 @@ pub mod Deciding
 pub mod Carried
 pub mod Prepared
 pub mod Spread
-pub mod Delivered
+pub mod Ending
 pub mod Plans

@@ -1,23 +1,21 @@
 -- Plans of several changes.
-use Rattle.sp_access.specs.Flow.{FlowView}
-use Rattle.sp_access.specs.Flows.{flow_count, flow_of}
-use Rattle.sp_base.specs.declared.refusal.Refusal.TheVariants.{BadSubscription, BindLimit, InUse, UnknownEndpoint, UnknownFlow}
+use Rattle.sp_access.specs.Flows.{flow_count}
+use Rattle.sp_base.specs.declared.refusal.Refusal.TheVariants.{BadSubscription, BindLimit, InUse, UnknownEndpoint}
 use Rattle.sp_copies.specs.Counts.{spooled_count}
-use Rattle.sp_endpoint.specs.Endpoints.{named, numbered}
+use Rattle.sp_endpoint.specs.Endpoints.{named}
 use Rattle.sp_base.specs.declared.refusal.Kind.TheVariants as kinds
 use Rattle.sp_base.specs.declared.refusal.Refusal.{Refusal}
-use Rattle.sp_copies.specs.declared.made.MadeCopy.{MadeCopy}
-use Rattle.sp_core.proofs.Deciding.{is_planned, is_refused, on_none, on_one}
+use Rattle.sp_core.proofs.Deciding.{is_planned, is_refused, on_one}
 use Rattle.sp_core.proofs.Spread.{first_of_two}
 use Rattle.sp_core.specs.Decided.{bind_plan, verdict}
 use Rattle.sp_plan.specs.Plan.{PlanState}
 use Rattle.sp_endpoint.specs.Endpoint.{EndpointView}
 use Rattle.sp_event.specs.declared.answer.Reply.TheVariants as replies
 use Rattle.sp_ledger.proofs.Decided.{passes, passes-append}
-use Rattle.sp_ledger.specs.Changes.{Change, holds}
+use Rattle.sp_ledger.specs.Changes.{Change}
 use Rattle.sp_ledger.specs.Ledger.{Ledger}
-use Rattle.sp_ledger.specs.OnFlows.{bind, deliveries, fits_kind, is_rebound, pull, pulled, rebound, rebind_changes, topic_check}
-use Rattle.sp_ledger.specs.Step.{Check, Step, begun, does, first_refusal, is_copy_spent, is_spent, is_unit, on_found, rule, unit_check, unless}
+use Rattle.sp_ledger.specs.OnFlows.{bind, fits_kind, is_rebound, rebound, rebind_changes, topic_check}
+use Rattle.sp_ledger.specs.Step.{Check, Step, does, first_refusal, is_copy_spent, is_spent, is_unit, on_found, rule, unit_check, unless}
 use Rattle.std.proofs.Common.{ap, arith, refl, sym, ◌∙◌}
 use Rattle.std.proofs.lemmas.Bool.{ltb-false}
 use Rattle.std.specs.Prelude.{Bool, Err, List, None, Ok, Option, Some, [], cond, false, map, nat_le, not, true, ℕ, ◌&&◌, ◌^◌, ◌++◌, ◌+◌, ◌==◌, ◌∷◌, ◌≡◌, ◌≤◌}
@@ -107,57 +105,3 @@ bind_planned L caller name selector topic e bound plan plain found is none plann
     bind_is L caller name selector topic e bound plain found is
     ∙ (is_planned L (bind_checks L topic e bound) _ _ (none ∙ sym (bind_unit L caller selector topic e bound))
     ∙ ap (λ (p : PlanState). Ok p) (sym planned))
-
--- a pull of a flow whose endpoint is there
-module _ (L : Ledger) (moment : ℕ) (caller : List ℕ) (flow count : ℕ) (f : FlowView) (e : EndpointView)
-    (found : Some f ≡ flow_of L.flows caller flow) (there : Some e ≡ numbered f.endpoint L.endpoints) where
-  abbrev on_copies : List MadeCopy → Step
-  on_copies cs = does [] (map (λ (c : MadeCopy). holds c.number flow) cs) (replies.Pull flow (deliveries (begun moment L) cs))
-
-  abbrev on_endpoint : FlowView → Step
-  on_endpoint g =
-      on_found (numbered g.endpoint L.endpoints) (UnknownFlow flow)
-      (λ d. on_copies (pulled (begun moment L) d flow count))
-
-  pull_is : verdict L (pull caller flow count (begun moment L)) ≡ verdict L (on_copies (pulled (begun moment L) e flow count))
-  pull_is =
-      on_one L (flow_of L.flows caller flow) f (UnknownFlow flow) on_endpoint found
-      ∙ on_one L (numbered f.endpoint L.endpoints) e (UnknownFlow flow)
-      (λ (d : EndpointView). on_copies (pulled (begun moment L) d flow count)) there
-
-  -- that isn't refused
-  pub pull_planned : (copies : List MadeCopy) (plan : PlanState) → copies ≡ pulled (begun moment L) e flow count →
-      None ≡ first_refusal (unit_check L (map (λ c. holds c.number flow) copies) ∷ []) →
-      plan ≡ record { changes = map (λ c. holds c.number flow) copies; reply = replies.Pull flow (deliveries L copies) } →
-      verdict L (pull caller flow count (begun moment L)) ≡ Ok plan
-  pull_planned copies plan chosen none is =
-      pull_is
-      ∙ (ap (λ (cs : List MadeCopy). verdict L (on_copies cs)) (sym chosen)
-      ∙ (is_planned L [] (map (λ (c : MadeCopy). holds c.number flow) copies) (replies.Pull flow (deliveries (begun moment L) copies)) none
-      ∙ ap (λ (p : PlanState). Ok p) (sym is)))
-
-  -- that is refused
-  pub pull_refused : (copies : List MadeCopy) (r : Refusal) → copies ≡ pulled (begun moment L) e flow count →
-      Some r ≡ first_refusal (unit_check L (map (λ c. holds c.number flow) copies) ∷ []) →
-      verdict L (pull caller flow count (begun moment L)) ≡ Err r
-  pull_refused copies r chosen some =
-      pull_is
-      ∙ (ap (λ (cs : List MadeCopy). verdict L (on_copies cs)) (sym chosen)
-      ∙ is_refused L [] (map (λ (c : MadeCopy). holds c.number flow) copies) (replies.Pull flow (deliveries (begun moment L) copies)) r some)
-
--- one whose endpoint isn't
-pub pull_lost : (L : Ledger) (moment : ℕ) (caller : List ℕ) (flow count : ℕ) (f : FlowView) →
-    Some f ≡ flow_of L.flows caller flow → None ≡ numbered f.endpoint L.endpoints →
-    verdict L (pull caller flow count (begun moment L)) ≡ Err (UnknownFlow flow)
-pull_lost L moment caller flow count f found none =
-    on_one L (flow_of L.flows caller flow) f (UnknownFlow flow) on_endpoint found
-    ∙ on_none L (numbered f.endpoint L.endpoints) (UnknownFlow flow)
-    (λ (e : EndpointView). on_copies (pulled (begun moment L) e flow count)) none
-  where
-    on_copies : List MadeCopy → Step
-    on_copies cs = does [] (map (λ (c : MadeCopy). holds c.number flow) cs) (replies.Pull flow (deliveries (begun moment L) cs))
-
-    on_endpoint : FlowView → Step
-    on_endpoint g =
-        on_found (numbered g.endpoint L.endpoints) (UnknownFlow flow)
-        (λ d. on_copies (pulled (begun moment L) d flow count))

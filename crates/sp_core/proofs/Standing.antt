@@ -2,17 +2,21 @@
 use Rattle.sp_access.specs.Flow.{FlowView}
 use Rattle.sp_access.specs.Flows.{FlowsView, without_flow}
 use Rattle.sp_base.specs.Rows.{Roomy}
-use Rattle.sp_copies.specs.History.{History, all_shared, with_closed, with_given_back, with_held}
+use Rattle.sp_copies.specs.History.{History, all_shared, with_closed, with_given_back, with_held, with_made}
 use Rattle.sp_copies.specs.Kept.{Kept, MayBeShared, Records}
+use Rattle.sp_copies.proofs.ClosedSound.{used-with_closed}
 use Rattle.sp_copies.specs.declared.closed.Closing.{Closing}
+use Rattle.sp_copies.specs.declared.closed.Closing.TheVariants as closings
+use Rattle.sp_copies.specs.declared.made.NewCopy.{NewCopy}
 use Rattle.sp_copies.specs.declared.made.Share.{Share}
 use Rattle.sp_core.specs.Stands.{Stands}
 use Rattle.sp_core.specs.State.{CoreState}
 use Rattle.sp_endpoint.specs.Endpoint.{EndpointView}
 use Rattle.sp_endpoint.specs.Endpoints.{replaced, without_endpoint}
 use Rattle.sp_ledger.proofs.EachKind.{begun_sound, change_sound, units_after}
-use Rattle.sp_ledger.specs.Allowed.{IsAllowed, IsShare, MayPublish}
-use Rattle.sp_ledger.specs.Changes.{Change, becomes, binds, changed, closes, comes, frees, goes, holds, publishes, unbinds, with_logged, with_message}
+use Rattle.sp_ledger.proofs.Moving.{move_counts}
+use Rattle.sp_ledger.specs.Allowed.{IsAllowed, IsShare, MayMove, MayPublish}
+use Rattle.sp_ledger.specs.Changes.{Change, becomes, binds, changed, closes, comes, frees, goes, holds, moves, publishes, unbinds, with_logged, with_message}
 use Rattle.sp_ledger.specs.Ledger.{Ledger, Published}
 use Rattle.sp_ledger.specs.Limits.{spent}
 use Rattle.sp_ledger.specs.Sound.{IsLedger, IsSound}
@@ -145,6 +149,31 @@ module _ (core : CoreState) (L : Ledger) (s : Stands core L) where
   closed C copy how may records =
       copies_stand C (closes copy how) may (with_closed copy how L.now L.copies) refl
       (subst (λ (k : ℕ). Records C (with_closed copy how k L.copies)) s.clock (records L.copies s.copies))
+
+  -- where a copy may be moved, a number is left for the other
+  pub number_left : (copy : ℕ) (new : NewCopy) → MayMove L copy new → L.copies.next ≤ 2 ^ 62
+  number_left copy new may =
+      let counts = move_counts L copy new s.ledger.sound may in
+      let left = s.ledger.sound.copies.next in
+      omega (arith, counts, left)
+
+  -- and the other fits, once the first is closed
+  pub fits_there : (copy : ℕ) (how : Closing) (moment : ℕ) (new : NewCopy) → MayMove L copy new →
+      used_bytes (with_closed copy how moment L.copies) new.endpoint + new.size ≤ 2 ^ 40
+  fits_there copy how moment new may =
+      let less = used-with_closed L.copies copy how moment new.endpoint in
+      let fits = may.fits in
+      omega (arith, less, fits)
+
+  pub moved : (left C : Kept) (copy to : ℕ) (new : NewCopy) → IsAllowed (moves copy new) L → to ≡ L.copies.next →
+      ((H : History) → Records core.copies H → Records left (with_closed copy (closings.Moved to) core.clock H)) →
+      ((H : History) → Records left H → Records C (with_made new H)) →
+      Stands (record core { copies = C }) (changed (moves copy new) L)
+  moved left C copy to new may is closed made =
+      copies_stand C (moves copy new) may (with_made new (with_closed copy (closings.Moved L.copies.next) L.now L.copies))
+      refl (made (with_closed copy (closings.Moved L.copies.next) L.now L.copies)
+      (subst (λ (n : ℕ). Records left (with_closed copy (closings.Moved n) L.now L.copies)) is
+      (subst (λ (k : ℕ). Records left (with_closed copy (closings.Moved to) k L.copies)) s.clock (closed L.copies s.copies))))
 
   pub held : (C : Kept) (copy flow : ℕ) → IsAllowed (holds copy flow) L →
       ((H : History) → Records core.copies H → Records C (with_held copy flow H)) →

@@ -44,7 +44,7 @@ bind_plan caller e bound selector L = record {
 
 abbrev pub publish_plan : Message → List EndpointView → Ledger → PlanState
 publish_plan m into L = record {
-  changes = publishes m (map (share_for m L.next.message) into) ∷ [];
+  changes = publishes m (map (share_for m L.next.message L.now) into) ∷ [];
   reply = replies.Publish L.next.message (told_copies L.copies.next into);
 }
 

@@ -3,8 +3,9 @@ ghost use Rattle.std.specs.Option.{option_copied};
 ghost use Rattle.sp_access.specs.Flows.{flow_count, flow_of};
 ghost use Rattle.sp_base.specs.Name.{is_caller};
 ghost use Rattle.sp_core.specs.Decided.{Prepares, of_first};
-ghost use Rattle.sp_core.specs.Stands.{Stands, empty_at};
+ghost use Rattle.sp_core.specs.Stands.{IsCore, Stands, empty_at};
 ghost use Rattle.sp_endpoint.specs.Endpoints.{named, queue_named};
+ghost use Rattle.sp_ending.specs.Tabled.{Tabled};
 ghost use Rattle.sp_event.specs.declared.request.Event.{Event};
 ghost use Rattle.sp_ledger.specs.Ledger.{Ledger, used_of};
 ghost use Rattle.sp_ledger.specs.Step.{first_refusal, is_spent};
@@ -31,6 +32,7 @@ use std::marker::Model;
 
 mod apply;
 mod decide;
+mod on_copies;
 mod on_endpoints;
 mod on_flows;
 mod publish;
@@ -144,6 +146,14 @@ impl Core {
         ensures { (L : Ledger) → Stands self.now L → result ≡ flow_count L.flows endpoint }
     {
         self.flows.count(endpoint) as u64
+    }
+
+    // What copies that end are decided on.
+    fn tables(&self) -> (&Endpoints, &Copies, &[Published])
+        ensures stands { IsCore self.now }
+        ensures tabled { (L : Ledger) → Stands self.now L → Tabled result.0.now.items result.1.now result.2.now L }
+    {
+        (&self.endpoints, &self.copies, self.messages.as_slice())
     }
 
     fn later(&self, moment: Moment) -> Moment

@@ -15,7 +15,7 @@ use sp_config::kind::EndpointKind;
 use sp_config::setting::Setting;
 use sp_config::settings::Settings;
 use sp_config::value::AttrValue;
-use sp_copies::closed::Fate;
+use sp_copies::closed::{Cause, Fate};
 use sp_event::answer::Reply;
 use sp_event::request::{Event, Outcome, PullCount, Query};
 use sp_message::message::{Dest, Message, TimeToLive};
@@ -38,6 +38,9 @@ enum Step {
     Unbind,
     Pull,
     Settle,
+    Reject,
+    Tick,
+    Delete,
 }
 
 fn name(alloc: Global, text: &[u8]) -> Option<Name> {
@@ -91,6 +94,10 @@ fn on_endpoint(alloc: Global, step: Step) -> Option<Event> {
             selector: None,
             topic: None,
         },
+        Step::Delete => Event::DeleteCopies {
+            endpoint,
+            copy: None,
+        },
         _ => Event::Deprovision { endpoint },
     })
 }
@@ -112,6 +119,12 @@ fn event(alloc: Global, step: Step) -> Option<Event> {
             copy: CopyNo::of(1),
             outcome: Outcome::Accepted,
         }),
+        Step::Reject => Some(Event::Settle {
+            flow,
+            copy: CopyNo::of(1),
+            outcome: Outcome::Rejected,
+        }),
+        Step::Tick => Some(Event::Tick),
         _ => on_endpoint(alloc, step),
     }
 }
@@ -129,6 +142,8 @@ fn figures(reply: &Reply) -> (u64, u64) {
         Reply::Unbind { flow, returned, .. } => (flow.value(), *returned),
         Reply::Pull { flow, deliveries } => (flow.value(), deliveries.len() as u64),
         Reply::Settle { copy, .. } => (copy.value(), 0),
+        Reply::Tick { closed } => (closed.len() as u64, 0),
+        Reply::DeleteCopies { closed, .. } => (closed.len() as u64, 0),
         _ => (0, 0),
     }
 }
@@ -202,6 +217,27 @@ fn ten_events_are_carried_out(rt: HostRuntime) -> Result<(), Memory> {
     assert_eq!(rt; take(alloc, &mut core, Step::Unbind), Some(Ok((1, 0))));
     assert_eq!(rt; take(alloc, &mut core, Step::Deprovision), Some(Ok((0, 0))));
     assert_eq!(rt; core.units(), 10);
+    Ok(())
+}
+
+#[test]
+fn copies_are_rejected_given_back_and_deleted(rt: HostRuntime) -> Result<(), Memory> {
+    let alloc = rt.alloc();
+    let mut core = Core::new(alloc, Numbers::FIRST)?;
+    for step in [Step::Provision, Step::Publish, Step::Publish, Step::Bind] {
+        assert!(rt; matches!(take(alloc, &mut core, step), Some(Ok(_))));
+    }
+    assert_eq!(rt; take(alloc, &mut core, Step::Pull), Some(Ok((1, 2))));
+    assert_eq!(rt; take(alloc, &mut core, Step::Reject), Some(Ok((1, 0))));
+    assert_eq!(rt;
+        fate(alloc, &core),
+        Some(Fate::Discarded(Cause::Rejected))
+    );
+    assert_eq!(rt; take(alloc, &mut core, Step::Unbind), Some(Ok((1, 1))));
+    assert_eq!(rt; take(alloc, &mut core, Step::Delete), Some(Ok((1, 0))));
+    assert_eq!(rt; take(alloc, &mut core, Step::Tick), Some(Ok((0, 0))));
+    assert_eq!(rt; used(alloc, &core), Some(0));
+    assert_eq!(rt; core.units(), 8);
     Ok(())
 }
 

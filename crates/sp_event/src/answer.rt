@@ -112,6 +112,15 @@ pub enum Reply {
         copy: CopyNo,
         fate: Fate,
     },
+    /// The copies that ended, in the order in which they did.
+    Tick {
+        closed: Items<CopyFate>,
+    },
+    /// The copies that were deleted, in order of number.
+    DeleteCopies {
+        endpoint: Name,
+        closed: Items<CopyFate>,
+    },
     Tally(Tally),
     /// The details are told of a copy that was made and whose closing, if any, is kept.
     Copy {

@@ -18,6 +18,10 @@ pub type PullCount = Ranged<OfPulls, 1, 64>;
 pub enum Outcome {
     /// The work is done: the copy is closed, and nobody gets it again.
     Accepted,
+    /// The work failed: the copy is given back, and ends where it has had its last attempt.
+    Failed,
+    /// The copy is no good: it ends, whatever attempts it has left.
+    Rejected,
 }
 
 /// A request that may change the ledger.
@@ -75,6 +79,15 @@ pub enum Event {
         flow: FlowNo,
         copy: CopyNo,
         outcome: Outcome,
+    },
+    /// The copies end that no flow holds and whose deadline has come: at most 1,024, the earliest
+    /// first.
+    Tick,
+    /// Copies of an endpoint are deleted that no flow holds: the one of this number if it is among
+    /// them, or without a number the first 1,024.
+    DeleteCopies {
+        endpoint: Name,
+        copy: Option<CopyNo>,
     },
 }
 

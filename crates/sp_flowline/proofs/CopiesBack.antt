@@ -1,5 +1,6 @@
 -- Copies, their fates and the causes of discards are told by what their JSON shows.
-use Rattle.std.proofs.Common.{◌≡◌, ◌∙◌, ◌<◌, ℕ, zero, suc, Bool, true, false, List, [], ◌∷◌, Some, refl, ap, ap₂, subst, arith, codes}
+use Rattle.std.proofs.Common.{◌≡◌, ◌∙◌, ◌<◌, ℕ, zero, suc, Bool, true, false, List, [], ◌∷◌, Some, refl, ap, ap₂, subst}
+use Rattle.std.proofs.Common.{arith, codes}
 use Rattle.std.specs.Prelude.{◌||◌, not, nat_lt, fold, map, All, AllPairs, bytes_eq, if◌then◌else◌}
 use Rattle.std.specs.List.{list_all, slice_get}
 use Rattle.std.specs.Option.{option_and_then, unwrap_or}
@@ -28,11 +29,14 @@ use Rattle.sp_flowline.proofs.SettingsPicked.{both}
 
 -- ---- a list of values, each of which is told
 
-pub each_back : {X : Type 0} (f : X → Data) (g : Data → X) (P : X → Type 0) → ((x : X) → P x → g (f x) ≡ x) → (xs : List X) → All P xs → map g (list_of (items_of (map f xs))) ≡ xs
+pub each_back : {X : Type 0} (f : X → Data) (g : Data → X) (P : X → Type 0) → ((x : X) → P x → g (f x) ≡ x)
+    → (xs : List X) → All P xs → map g (list_of (items_of (map f xs))) ≡ xs
 each_back f g P one [] h = refl
-each_back f g P one (x ∷ xs) h = ap₂ (λ y ys. y ∷ ys) (one x (h 0 x (omega arith))) (each_back f g P one xs (λ k d less. h (suc k) d (omega arith)))
+each_back f g P one (x ∷ xs) h =
+    ap₂ (λ y ys. y ∷ ys) (one x (h 0 x (omega arith))) (each_back f g P one xs (λ k d less. h (suc k) d (omega arith)))
 
-pub every_back : {X : Type 0} (f : X → Data) (g : Data → X) → ((x : X) → g (f x) ≡ x) → (xs : List X) → map g (list_of (items_of (map f xs))) ≡ xs
+pub every_back : {X : Type 0} (f : X → Data) (g : Data → X) → ((x : X) → g (f x) ≡ x) → (xs : List X)
+    → map g (list_of (items_of (map f xs))) ≡ xs
 every_back f g one [] = refl
 every_back f g one (x ∷ xs) = ap₂ (λ y ys. y ∷ ys) (one x) (every_back f g one xs)
 
@@ -65,12 +69,18 @@ abbrev pub fate_of : Members → Fate
 fate_of ms = fate_named (text (codes "fate") ms) ms
 
 abbrev pub published_of : Data → PublishedCopy
-published_of d = record { copy = num (codes "copy") (fields d); endpoint = text (codes "endpoint") (fields d); fate = fate_of (fields d) }
+published_of d =
+    record {
+      copy = num (codes "copy") (fields d);
+      endpoint = text (codes "endpoint") (fields d);
+      fate = fate_of (fields d);
+    }
 
 abbrev told : ℕ → List ℕ → Fate → PublishedCopy
 told copy endpoint fate = record { copy = copy; endpoint = endpoint; fate = fate }
 
-published : (copy : ℕ) (endpoint : List ℕ) (fate : Fate) → published_of (told_data (told copy endpoint fate)) ≡ told copy endpoint fate
+published : (copy : ℕ) (endpoint : List ℕ) (fate : Fate)
+    → published_of (told_data (told copy endpoint fate)) ≡ told copy endpoint fate
 published copy endpoint Never = refl
 published copy endpoint Spooled = refl
 published copy endpoint Accepted = refl
@@ -112,7 +122,8 @@ place_back causes.DmqQuota = refl
 place_back causes.TopicChanged = refl
 place_back causes.Deleted = refl
 
-passes : (p : Cause → Bool) (xs : List Cause) (n : ℕ) (c : Cause) → slice_get xs n ≡ Some c → list_all p xs ≡ true → p c ≡ true
+passes : (p : Cause → Bool) (xs : List Cause) (n : ℕ) (c : Cause) → slice_get xs n ≡ Some c → list_all p xs ≡ true
+    → p c ≡ true
 passes p [] n c e h = absurd (cc)
 passes p (x ∷ xs) zero c e h =
     let same : x ≡ c = cc in
@@ -139,7 +150,9 @@ unfolding rises is_after
 all_rise = refl
 
 rise : (a b : Cause) → rises a b ≡ true
-rise a b = passes (rises a) all_causes (cause_place b) b (place_back b) (passes (λ c. list_all (rises c) all_causes) all_causes (cause_place a) a (place_back a) all_rise)
+rise a b =
+    passes (rises a) all_causes (cause_place b) b (place_back b)
+    (passes (λ c. list_all (rises c) all_causes) all_causes (cause_place a) a (place_back a) all_rise)
 
 chosen : (less after : Bool) → less ≡ true → (not less || after) ≡ true → after ≡ true
 chosen true after e h = h
@@ -147,7 +160,9 @@ chosen false after e h = absurd (cc)
 
 later_name : (a b : Cause) → cause_place a < cause_place b → slice_cmp nat_cmp (cause_word b) (cause_word a) ≡ Greater
 unfolding rises
-later_name a b less = was_after _ (chosen (nat_lt (cause_place a) (cause_place b)) _ (lt-ltb (cause_place a) (cause_place b) less) (rise a b))
+later_name a b less =
+    was_after _
+    (chosen (nat_lt (cause_place a) (cause_place b)) _ (lt-ltb (cause_place a) (cause_place b) less) (rise a b))
 
 abbrev InOrder : List CauseCount → Type 0
 InOrder counts = AllPairs (λ a b. cause_place a.cause < cause_place b.cause) counts
@@ -156,13 +171,19 @@ abbrev AreLater : Cause → List CauseCount → Type 0
 AreLater cause counts = All (λ k. cause_place cause < cause_place k.cause) counts
 
 -- what comes later by name is put behind
-behind : (cause : Cause) (d : Data) (ms : Members) (counts : List CauseCount) → AreLater cause counts → fold with_cause (member (cause_word cause) d ms) counts ≡ member (cause_word cause) d (fold with_cause ms counts)
+behind : (cause : Cause) (d : Data) (ms : Members) (counts : List CauseCount) → AreLater cause counts
+    → fold with_cause (member (cause_word cause) d ms) counts ≡ member (cause_word cause) d (fold with_cause ms counts)
 behind cause d ms [] h = refl
 behind cause d ms (k ∷ counts) h =
     let last = later_name cause k.cause (h 0 k (omega arith)) in
-    let here : put (cause_word k.cause) (whole k.count) (member (cause_word cause) d ms) ≡ member (cause_word cause) d (put (cause_word k.cause) (whole k.count) ms) =
-    ap (λ (o : Ordering). match_ordering o (member (cause_word k.cause) (whole k.count) (member (cause_word cause) d ms)) (member (cause_word cause) (whole k.count) ms) (member (cause_word cause) d (put (cause_word k.cause) (whole k.count) ms))) last in
-    ap (λ (all : Members). fold with_cause all counts) here ∙ behind cause d (put (cause_word k.cause) (whole k.count) ms) counts (λ j e less. h (suc j) e (omega arith))
+    let here : put (cause_word k.cause) (whole k.count) (member (cause_word cause) d ms)
+    ≡ member (cause_word cause) d (put (cause_word k.cause) (whole k.count) ms) =
+    ap (λ (o : Ordering). match_ordering o
+    (member (cause_word k.cause) (whole k.count) (member (cause_word cause) d ms))
+    (member (cause_word cause) (whole k.count) ms)
+    (member (cause_word cause) d (put (cause_word k.cause) (whole k.count) ms))) last in
+    ap (λ (all : Members). fold with_cause all counts) here
+    ∙ behind cause d (put (cause_word k.cause) (whole k.count) ms) counts (λ j e less. h (suc j) e (omega arith))
 
 abbrev count_of : Data → ℕ
 count_of d = unwrap_or (option_and_then as_u64 (as_number d)) 0
@@ -177,5 +198,7 @@ counts_of (member key d ms) = counted (cause_of key) (count_of d) ∷ counts_of 
 pub counts_back : (counts : List CauseCount) → InOrder counts → counts_of (fold with_cause no_members counts) ≡ counts
 counts_back [] h = refl
 counts_back (k ∷ counts) h =
-    ap counts_of (behind k.cause (whole k.count) no_members counts (λ j d less. h 0 (suc j) d (omega arith) (omega arith)))
-    ∙ ap₂ (λ (c : Cause) (rest : List CauseCount). counted c k.count ∷ rest) (cause_back k.cause) (counts_back counts (λ i j d less most. h (suc i) (suc j) d (omega arith) (omega arith)))
+    ap counts_of (behind k.cause (whole k.count) no_members counts
+    (λ j d less. h 0 (suc j) d (omega arith) (omega arith)))
+    ∙ ap₂ (λ (c : Cause) (rest : List CauseCount). counted c k.count ∷ rest) (cause_back k.cause)
+    (counts_back counts (λ i j d less most. h (suc i) (suc j) d (omega arith) (omega arith)))

@@ -10,7 +10,14 @@ use Rattle.sp_base.specs.declared.refusal.Kind.TheVariants as kind
 use Rattle.sp_base.specs.declared.refusal.Permission.{Permission}
 use Rattle.sp_base.specs.declared.refusal.Permission.TheVariants as permission
 use Rattle.sp_base.specs.declared.refusal.Refusal.{Refusal}
-use Rattle.sp_base.specs.declared.refusal.Refusal.TheVariants.{BadRequest, DirectMode, BadTopic, BadSubscription, BadSelector, BadAttribute, UnknownEndpoint, EndpointExists, EndpointLimit, NoAccess, InUse, SubscriptionExists, SubscriptionLimit, UnknownSubscription, IngressDisabled, EgressDisabled, MessageTooLarge, QuotaExceeded, VpnQuotaExceeded, BindLimit, UnknownFlow, NotHeld, ReplayActive, NoReplay, LogDisabled, NotInLog, IdsSpent}
+use Rattle.sp_base.specs.declared.refusal.Refusal.TheVariants.{BadRequest, DirectMode, BadTopic, BadSubscription}
+use Rattle.sp_base.specs.declared.refusal.Refusal.TheVariants.{BadSelector, BadAttribute, UnknownEndpoint}
+use Rattle.sp_base.specs.declared.refusal.Refusal.TheVariants.{EndpointExists, EndpointLimit, NoAccess, InUse}
+use Rattle.sp_base.specs.declared.refusal.Refusal.TheVariants.{SubscriptionExists, SubscriptionLimit}
+use Rattle.sp_base.specs.declared.refusal.Refusal.TheVariants.{UnknownSubscription, IngressDisabled, EgressDisabled}
+use Rattle.sp_base.specs.declared.refusal.Refusal.TheVariants.{MessageTooLarge, QuotaExceeded, VpnQuotaExceeded}
+use Rattle.sp_base.specs.declared.refusal.Refusal.TheVariants.{BindLimit, UnknownFlow, NotHeld, ReplayActive, NoReplay}
+use Rattle.sp_base.specs.declared.refusal.Refusal.TheVariants.{LogDisabled, NotInLog, IdsSpent}
 use Rattle.sp_flowline.specs.Answers.{refusal_data}
 use Rattle.sp_flowline.proofs.MembersBack.{num, text, fields}
 
@@ -39,7 +46,9 @@ kind_back kind.Unit = refl
 abbrev later : ℕ → Members → Refusal
 later n ms =
     if n == 17 then MessageTooLarge (num (codes "size") ms) (num (codes "max") ms) else
-    (if n == 18 then QuotaExceeded (text (codes "name") ms) (num (codes "used") ms) (num (codes "size") ms) (num (codes "max") ms) else
+    (if n == 18
+    then QuotaExceeded
+    (text (codes "name") ms) (num (codes "used") ms) (num (codes "size") ms) (num (codes "max") ms) else
     (if n == 19 then VpnQuotaExceeded (num (codes "used") ms) (num (codes "size") ms) (num (codes "max") ms) else
     (if n == 20 then BindLimit (num (codes "bound") ms) (num (codes "max") ms) else
     (if n == 21 then UnknownFlow (num (codes "flow") ms) else
@@ -47,7 +56,8 @@ later n ms =
     (if n == 23 then ReplayActive (num (codes "replay") ms) else
     (if n == 24 then NoReplay else
     (if n == 25 then LogDisabled else
-    (if n == 26 then NotInLog (num (codes "first") ms) (num (codes "last") ms) else IdsSpent (kind_of (text (codes "kind") ms)))))))))))
+    (if n == 26 then NotInLog (num (codes "first") ms) (num (codes "last") ms) else
+    IdsSpent (kind_of (text (codes "kind") ms)))))))))))
 
 -- the refusal of a number, with the values that members show
 abbrev numbered : ℕ → Members → Refusal

@@ -1,5 +1,6 @@
 -- Settings that are written are read back.
-use Rattle.std.proofs.Common.{◌≡◌, ◌∙◌, ◌<◌, ◌≤◌, ◌+◌, inl, inr, ℕ, Bool, true, false, cond, List, [], ◌∷◌, Option, Some, None, refl, sym, ap, ap₂, subst, arith, is_eq}
+use Rattle.std.proofs.Common.{◌≡◌, ◌∙◌, ◌<◌, ◌≤◌, ◌+◌, inl, inr, ℕ, Bool, true, false, cond, List, [], ◌∷◌, Option}
+use Rattle.std.proofs.Common.{Some, None, refl, sym, ap, ap₂, subst, arith, is_eq}
 use Rattle.std.specs.Prelude.{◌==◌, ◌&&◌, find, bytes_eq, nat_lt}
 use Rattle.std.specs.Bool.{Decides, one_answer}
 use Rattle.std.specs.List.{filter_map, cons_option}
@@ -92,7 +93,8 @@ one_attr : (a b : Attr) → Some a ≡ Some b → a ≡ b
 one_attr a b e = cc
 
 pub one_number : (a b : Attr) → number_of a ≡ number_of b → a ≡ b
-one_number a b e = one_attr a b (sym (by_number a) ∙ ap (λ n. find (λ (c : Attr). number_of c == n) all_attrs) e ∙ by_number b)
+one_number a b e =
+    one_attr a b (sym (by_number a) ∙ ap (λ n. find (λ (c : Attr). number_of c == n) all_attrs) e ∙ by_number b)
 
 -- two names are the same exactly where the numbers are
 one_name : (a b : Attr) → bytes_eq (name_of a) (name_of b) ≡ (number_of b == number_of a)
@@ -117,47 +119,58 @@ by_order Equal x y = refl
 by_order Greater x y = refl
 
 -- what is found under an attribute's name
-pub found : (settings : List Setting) (a : Attr) → get_member (name_of a) (settings_members settings) ≡ option_map (λ s. value_data s.attr s.value) (picked settings a)
+pub found : (settings : List Setting) (a : Attr)
+    → get_member (name_of a) (settings_members settings)
+    ≡ option_map (λ s. value_data s.attr s.value) (picked settings a)
 unfolding picked
 found [] a = refl
 found (s ∷ rest) a =
     let more = found rest a in
     let same = is_eq-slice_cmp (name_of a) (name_of s.attr) ∙ one_name a s.attr in
-    by_order (slice_cmp nat_cmp (name_of a) (name_of s.attr)) (get_member (name_of a) (settings_members rest)) (Some (value_data s.attr s.value))
+    by_order (slice_cmp nat_cmp (name_of a) (name_of s.attr)) (get_member (name_of a) (settings_members rest))
+    (Some (value_data s.attr s.value))
     ∙ ap (λ (b : Bool). cond b (Some (value_data s.attr s.value)) (get_member (name_of a) (settings_members rest))) same
     ∙ chosen (number_of s.attr == number_of a) more
   where
-    chosen : (b : Bool) → get_member (name_of a) (settings_members rest) ≡ option_map (λ (s : Setting). value_data s.attr s.value) (picked rest a)
-        → cond b (Some (value_data s.attr s.value)) (get_member (name_of a) (settings_members rest)) ≡ option_map (λ (s : Setting). value_data s.attr s.value) (cond b (Some s) (picked rest a))
+    chosen : (b : Bool) → get_member (name_of a) (settings_members rest)
+        ≡ option_map (λ (s : Setting). value_data s.attr s.value) (picked rest a)
+        → cond b (Some (value_data s.attr s.value)) (get_member (name_of a) (settings_members rest))
+        ≡ option_map (λ (s : Setting). value_data s.attr s.value) (cond b (Some s) (picked rest a))
     chosen true h = refl
     chosen false h = h
 
 -- no setting of an attribute before them
-none_found : (k n : ℕ) (settings : List Setting) → k ≤ n → rise_above n settings ≡ true → find (λ (s : Setting). number_of s.attr == k) settings ≡ None
+none_found : (k n : ℕ) (settings : List Setting) → k ≤ n → rise_above n settings ≡ true
+    → find (λ (s : Setting). number_of s.attr == k) settings ≡ None
 none_found k n [] le h = refl
 none_found k n (s ∷ rest) le h =
     let parts = both (nat_lt n (number_of s.attr)) (rise_above (number_of s.attr) rest) h in
     let less = ltb-true n (number_of s.attr) parts.0 in
-    cond-false _ _ _ (is_above (number_of s.attr) k (omega arith)) ∙ none_found k (number_of s.attr) rest (omega arith) parts.1
+    cond-false _ _ _ (is_above (number_of s.attr) k (omega arith))
+    ∙ none_found k (number_of s.attr) rest (omega arith) parts.1
 
 -- attributes with the numbers from one after n to the last
 follow : ℕ → List Attr → Bool
 follow n [] = n == 15
 follow n (a ∷ attrs) = (number_of a == n + 1) && follow (n + 1) attrs
 
-skip : (s : Setting) (settings : List Setting) (n : ℕ) (attrs : List Attr) → follow n attrs ≡ true → number_of s.attr ≤ n → filter_map (picked (s ∷ settings)) attrs ≡ filter_map (picked settings) attrs
+skip : (s : Setting) (settings : List Setting) (n : ℕ) (attrs : List Attr) → follow n attrs ≡ true
+    → number_of s.attr ≤ n → filter_map (picked (s ∷ settings)) attrs ≡ filter_map (picked settings) attrs
 unfolding follow picked
 skip s settings n [] h le = refl
 skip s settings n (a ∷ attrs) h le =
     let parts = both (number_of a == n + 1) (follow (n + 1) attrs) h in
     let number = was_same (number_of a) (n + 1) parts.0 in
-    ap₂ cons_option (cond-false _ _ _ (is_below (number_of s.attr) (number_of a) (omega arith))) (skip s settings (n + 1) attrs parts.1 (omega arith))
+    ap₂ cons_option (cond-false _ _ _ (is_below (number_of s.attr) (number_of a) (omega arith)))
+    (skip s settings (n + 1) attrs parts.1 (omega arith))
 
-walk : (n : ℕ) (attrs : List Attr) (settings : List Setting) → follow n attrs ≡ true → rise_above n settings ≡ true → filter_map (picked settings) attrs ≡ settings
+walk : (n : ℕ) (attrs : List Attr) (settings : List Setting) → follow n attrs ≡ true → rise_above n settings ≡ true
+    → filter_map (picked settings) attrs ≡ settings
 unfolding follow picked
 walk n [] [] h r = refl
 walk n [] (s ∷ rest) h r =
-    let less = ltb-true n (number_of s.attr) (both (nat_lt n (number_of s.attr)) (rise_above (number_of s.attr) rest) r).0 in
+    let rises = both (nat_lt n (number_of s.attr)) (rise_above (number_of s.attr) rest) r in
+    let less = ltb-true n (number_of s.attr) rises.0 in
     let last = was_same n 15 h in
     let most = few s.attr in
     absurd (omega arith)
@@ -170,12 +183,15 @@ walk n (a ∷ attrs) (s ∷ rest) h r =
     let after : n + 1 ≤ number_of s.attr = omega arith in
     let here : n + 1 ≡ number_of s.attr → filter_map (picked (s ∷ rest)) (a ∷ attrs) ≡ s ∷ rest = λ e.
     ap₂ cons_option (cond-true _ _ _ (is_same (number_of s.attr) (number_of a) (sym e ∙ sym number)))
-    (skip s rest (n + 1) attrs parts.1 (omega arith) ∙ walk (n + 1) attrs rest parts.1 (subst (λ (m : ℕ). rise_above m rest ≡ true) (sym e) rises.1)) in
+    (skip s rest (n + 1) attrs parts.1 (omega arith)
+    ∙ walk (n + 1) attrs rest parts.1 (subst (λ (m : ℕ). rise_above m rest ≡ true) (sym e) rises.1)) in
     let beyond : n + 1 < number_of s.attr → filter_map (picked (s ∷ rest)) (a ∷ attrs) ≡ s ∷ rest = λ far.
     let rise : rise_above (n + 1) (s ∷ rest) ≡ true = rw (lt-ltb (n + 1) (number_of s.attr) far) rises.1 in
-    ap₂ cons_option (none_found (number_of a) (n + 1) (s ∷ rest) (omega arith) rise) (walk (n + 1) attrs (s ∷ rest) parts.1 rise) in
+    ap₂ cons_option (none_found (number_of a) (n + 1) (s ∷ rest) (omega arith) rise)
+    (walk (n + 1) attrs (s ∷ rest) parts.1 rise) in
     elim (eq-or-lt_of_le after) [ inl e ↦ here e | inr far ↦ beyond far ]
 
-pub all_picked : (settings : List Setting) → rise_above 0 settings ≡ true → filter_map (picked settings) all_attrs ≡ settings
+pub all_picked : (settings : List Setting) → rise_above 0 settings ≡ true
+    → filter_map (picked settings) all_attrs ≡ settings
 unfolding follow
 all_picked settings r = walk 0 all_attrs settings refl r

@@ -1,5 +1,6 @@
 -- The compact text of a JSON value determines the value.
-use Rattle.std.proofs.Common.{◌≡◌, ◌∙◌, ◌≤◌, ◌+◌, ℕ, List, [], Option, Some, None, refl, sym, ap, ap₂, arith, append-nil}
+use Rattle.std.proofs.Common.{◌≡◌, ◌∙◌, ◌≤◌, ◌+◌, ℕ, List, [], Option, Some, None, refl, sym, ap, ap₂, arith}
+use Rattle.std.proofs.Common.{append-nil}
 use Rattle.std.specs.Prelude.{pos, negsuc}
 use Rattle.std.specs.Option.{unwrap_or}
 use Rattle.json.specs.Token.{Token}
@@ -9,7 +10,8 @@ use Rattle.json.specs.Tree.{json_tokens, depth, HasNumbers, ItemsHaveNumbers, Me
 use Rattle.json.proofs.Printed.Decimals.{IsNumber-decimal, IsNumber-signed_decimal}
 use Rattle.json.proofs.Printed.Tokens.{tokens-print}
 use Rattle.json.proofs.Printed.Trees.{value-json_tokens, ArePrintable-json_tokens}
-use Rattle.serde_json.specs.Data.{Num, unsigned, negative, float, Data, null, boolean, number, string, array, object, Items, no_items, item, Members, no_members, member}
+use Rattle.serde_json.specs.Data.{Num, unsigned, negative, float, Data, null, boolean, number, string, array, object}
+use Rattle.serde_json.specs.Data.{Items, no_items, item, Members, no_members, member}
 use Rattle.serde_json.specs.Read.{number_of}
 use Rattle.serde_json.specs.Written.{outline, items_outline, members_outline, compact_text}
 use Rattle.serde_json.proofs.Numbers.{number_of-decimal, number_of-negative}
@@ -39,7 +41,8 @@ mutual
   data_back (boolean b) h = refl
   data_back (number (unsigned n)) h = ap (λ (o : Option Num). number (unwrap_or o (unsigned 0))) (number_of-decimal n h)
   data_back (number (negative (pos n))) h = absurd h
-  data_back (number (negative (negsuc n))) h = ap (λ (o : Option Num). number (unwrap_or o (unsigned 0))) (number_of-negative n h)
+  data_back (number (negative (negsuc n))) h =
+      ap (λ (o : Option Num). number (unwrap_or o (unsigned 0))) (number_of-negative n h)
   data_back (number (float x)) h = absurd h
   data_back (string s) h = refl
   data_back (array ds) h = ap array (items_back ds h)
@@ -75,7 +78,8 @@ mutual
 
 tokens_back : (d : Data) → HasWholes d → tokens (compact_text d) ≡ json_tokens (outline d)
 tokens_back d h =
-    ap tokens (sym (print-outline d)) ∙ tokens-print (json_tokens (outline d)) (ArePrintable-json_tokens (outline d) (has_numbers d h))
+    ap tokens (sym (print-outline d))
+    ∙ tokens-print (json_tokens (outline d)) (ArePrintable-json_tokens (outline d) (has_numbers d h))
 
 first_of : Option (json.Json × List Token) → json.Json
 first_of None = json.null
@@ -84,12 +88,14 @@ first_of (Some p) = p.0
 read_tokens : (j : json.Json) (n : ℕ) → depth j ≤ n → first_of (json.value n (json_tokens j)) ≡ j
 unfolding first_of
 read_tokens j n h =
-    ap (λ (ts : List Token). first_of (json.value n ts)) (sym (append-nil (json_tokens j))) ∙ ap first_of (value-json_tokens j n [] h)
+    ap (λ (ts : List Token). first_of (json.value n ts)) (sym (append-nil (json_tokens j)))
+    ∙ ap first_of (value-json_tokens j n [] h)
 
 one_value : (j k : json.Json) → json_tokens j ≡ json_tokens k → j ≡ k
 one_value j k e =
     let n = depth j + depth k in
-    sym (read_tokens j n (omega arith)) ∙ ap (λ (ts : List Token). first_of (json.value n ts)) e ∙ read_tokens k n (omega arith)
+    sym (read_tokens j n (omega arith)) ∙ ap (λ (ts : List Token). first_of (json.value n ts)) e
+    ∙ read_tokens k n (omega arith)
 
 pub one_data : (d e : Data) → HasWholes d → HasWholes e → compact_text d ≡ compact_text e → d ≡ e
 one_data d e h k same =

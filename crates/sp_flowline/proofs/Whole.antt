@@ -25,18 +25,26 @@ reply (replies.Publish message cs) unit = rw (copies cs)
 reply (replies.Bind endpoint flow discarded) unit = refl
 reply (replies.Unbind flow cs returned) unit = rw (closed cs)
 reply (replies.Pull flow ds) unit = rw (deliveries ds)
-reply (replies.Settle c fate) unit = fated fate (member (codes "copy") (whole c) (member (codes "ok") (string (codes "settle")) (member (codes "unit") (whole unit) no_members))) refl
+reply (replies.Settle c fate) unit =
+    fated fate (member (codes "copy") (whole c)
+    (member (codes "ok") (string (codes "settle")) (member (codes "unit") (whole unit) no_members))) refl
+reply (replies.Tick cs) unit = rw (closed cs)
+reply (replies.DeleteCopies endpoint cs) unit = rw (closed cs)
 reply (replies.Tally t) unit = rw (causes t.causes no_members refl)
 reply (replies.Flows endpoint fs) unit = rw (flows fs)
-reply (replies.Copy c fate details) unit = fated fate (with_details details (asked c unit)) (detailed details (asked c unit) refl)
+reply (replies.Copy c fate details) unit =
+    fated fate (with_details details (asked c unit)) (detailed details (asked c unit) refl)
   where
     asked : ℕ → ℕ → Members
-    asked n u = member (codes "copy") (whole n) (member (codes "ok") (string (codes "copy")) (member (codes "unit") (whole u) no_members))
+    asked n u =
+        member (codes "copy") (whole n)
+        (member (codes "ok") (string (codes "copy")) (member (codes "unit") (whole u) no_members))
 
 refusal : (r : Refusal) → has_float (refusal_data r) ≡ false
 refusal r =
     let rule : Members = put (codes "rule") (string (rule_name r)) (shown_members r) in
-    put_whole (codes "no") (whole (number_of r)) rule refl (put_whole (codes "rule") (string (rule_name r)) (shown_members r) refl (shown r))
+    put_whole (codes "no") (whole (number_of r)) rule refl
+    (put_whole (codes "rule") (string (rule_name r)) (shown_members r) refl (shown r))
 
 pub answer_is_whole : (a : Answered) (unit : ℕ) → has_float (answer_data a unit) ≡ false
 answer_is_whole (Gave r) unit = reply r unit

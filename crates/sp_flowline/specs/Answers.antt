@@ -13,10 +13,12 @@ use Rattle.sp_flowline.specs.Replies.{reply_data}
 -- a refusal: the number and the name of its rule, and the values that it shows
 abbrev pub refusal_data : Refusal → Data
 refusal_data refusal =
-    object (put (codes "no") (whole (number_of refusal)) (put (codes "rule") (string (rule_name refusal)) (shown_members refusal)))
+    object (put (codes "no") (whole (number_of refusal))
+    (put (codes "rule") (string (rule_name refusal)) (shown_members refusal)))
 
 abbrev pub refused_data : Refusal → ℕ → Data
-refused_data refusal unit = object (member (codes "refused") (refusal_data refusal) (member (codes "unit") (whole unit) no_members))
+refused_data refusal unit =
+    object (member (codes "refused") (refusal_data refusal) (member (codes "unit") (whole unit) no_members))
 
 abbrev pub full_data : ℕ → ℕ → ℕ → Data
 full_data len need most = object (member (codes "full") (object

@@ -5,11 +5,15 @@ use Rattle.sp_base.specs.declared.refusal.Refusal.{Refusal}
 use Rattle.sp_event.specs.declared.request.Ask.{Ask}
 use Rattle.sp_event.specs.declared.request.Ask.TheVariants.{Do, Look}
 use Rattle.sp_event.specs.declared.request.Event.{Event}
+use Rattle.sp_event.specs.declared.request.Event.TheVariants as events
 use Rattle.sp_event.specs.declared.request.Query.{Query}
 use Rattle.sp_event.specs.declared.request.Query.TheVariants as queries
 use Rattle.sp_flowline.specs.declared.op.Op.{Op}
-use Rattle.sp_flowline.specs.declared.op.Op.TheVariants.{Provision, Deprovision, Change, Subscribe, Unsubscribe, Publish, Bind, Unbind, Pull, Settle, Tally, Copy, Flows}
-use Rattle.sp_flowline.specs.EndpointEvents.{provision_in, deprovision_in, change_in, subscribe_in, unsubscribe_in}
+use Rattle.sp_flowline.specs.declared.op.Op.TheVariants.{Provision, Deprovision, Change, Subscribe, Unsubscribe}
+use Rattle.sp_flowline.specs.declared.op.Op.TheVariants.{Publish, Bind, Unbind, Pull, Settle, Tick, Delete}
+use Rattle.sp_flowline.specs.declared.op.Op.TheVariants.{Tally, Copy, Flows}
+use Rattle.sp_flowline.specs.EndpointEvents.{provision_in, deprovision_in, change_in, delete_in}
+use Rattle.sp_flowline.specs.EndpointEvents.{subscribe_in, unsubscribe_in}
 use Rattle.sp_json.specs.Fields.{name_at, optional_name_at, ranged_at}
 use Rattle.sp_flowline.specs.FlowEvents.{bind_in, unbind_in, pull_in, settle_in}
 use Rattle.sp_base.specs.Parts.{formed, and_then}
@@ -46,6 +50,8 @@ ask_in Bind d = done (bind_in d)
 ask_in Unbind d = done (formed (unbind_in d))
 ask_in Pull d = done (formed (pull_in d))
 ask_in Settle d = done (formed (settle_in d))
+ask_in Tick d = done (Ok events.Tick)
+ask_in Delete d = done (formed (delete_in d))
 ask_in Tally d = looked (formed (tally_in d))
 ask_in Copy d = looked (formed (copy_in d))
 ask_in Flows d = looked (formed (flows_in d))

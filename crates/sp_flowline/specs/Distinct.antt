@@ -1,6 +1,7 @@
 -- What the line of an answer tells of it: all, but for the place of a refused event.
 use Rattle.std.specs.Prelude.{◌≡◌, ◌<◌, ◌^◌, ℕ, pos, negsuc, true, None, All, AllPairs, ⊤}
-use Rattle.serde_json.specs.Data.{Num, unsigned, negative, float, Data, null, boolean, number, string, array, object, Items, no_items, item, Members, no_members, member}
+use Rattle.serde_json.specs.Data.{Num, unsigned, negative, float, Data, null, boolean, number, string, array, object}
+use Rattle.serde_json.specs.Data.{Items, no_items, item, Members, no_members, member}
 use Rattle.sp_copies.specs.Counts.{cause_place}
 use Rattle.sp_event.specs.declared.answer.Answered.{Answered}
 use Rattle.sp_event.specs.declared.answer.Answered.TheVariants.{Gave, Refused, Memory, Disk, Full}
@@ -38,7 +39,8 @@ abbrev mutual
 -- rules
 abbrev pub IsTellable : Answered → Type 0
 IsTellable (Gave (replies.Tally tally)) = AllPairs (λ a b. cause_place a.cause < cause_place b.cause) tally.causes
-IsTellable (Gave (replies.Pull flow deliveries)) = All (λ d. AreBytes d.payload × (are_properties d.properties ≡ true)) deliveries
+IsTellable (Gave (replies.Pull flow deliveries)) =
+    All (λ d. AreBytes d.payload × (are_properties d.properties ≡ true)) deliveries
 IsTellable answered = ⊤
 
 -- an answer without the place of a refused event, which no line shows

@@ -1,13 +1,14 @@
 -- What the fields of a request ask of endpoints.
-use Rattle.std.specs.Prelude.{Option, Result, Ok, option_map, codes}
+use Rattle.std.specs.Prelude.{◌^◌, Option, Result, Ok, option_map, option_and_then, codes}
 use Rattle.serde_json.specs.Data.{Data}
 use Rattle.sp_base.specs.declared.refusal.Refusal.{Refusal}
 use Rattle.sp_config.specs.declared.kind.EndpointKind.TheVariants.{Queue}
 use Rattle.sp_config.specs.Choices.{endpoint_kind_word, endpoint_kinds}
 use Rattle.sp_event.specs.declared.request.Event.{Event}
-use Rattle.sp_event.specs.declared.request.Event.TheVariants.{Provision, Deprovision, Change, Subscribe, Unsubscribe}
+use Rattle.sp_event.specs.declared.request.Event.TheVariants.{Provision, Deprovision, Change, DeleteCopies}
+use Rattle.sp_event.specs.declared.request.Event.TheVariants.{Subscribe, Unsubscribe}
 use Rattle.sp_json.specs.Attributes.{settings_at, optional_settings_at}
-use Rattle.sp_json.specs.Fields.{choice_or, name_at}
+use Rattle.sp_json.specs.Fields.{choice_or, name_at, optional_ranged_at}
 use Rattle.sp_base.specs.Parts.{formed, and_then}
 use Rattle.sp_json.specs.Subscriptions.{subscription_at}
 
@@ -42,3 +43,9 @@ unsubscribe_in d =
     and_then (formed (name_at (codes "endpoint") d)) (λ endpoint.
     and_then (subscription_at (codes "subscription") d) (λ subscription.
     Ok (Unsubscribe endpoint subscription)))
+
+-- the end of copies of an endpoint: of the one that is named, or of those that are there
+abbrev pub delete_in : Data → Option Event
+delete_in d =
+    option_and_then (λ endpoint.
+    option_map (DeleteCopies endpoint) (optional_ranged_at 0 (2 ^ 62) (codes "copy") d)) (name_at (codes "endpoint") d)

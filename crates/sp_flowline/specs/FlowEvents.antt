@@ -1,13 +1,15 @@
 -- What the fields of a request ask of flows. None where one has a value outside its form.
-use Rattle.std.specs.Prelude.{ℕ, ◌^◌, List, Option, Some, None, Result, Ok, Err, option_map, option_and_then, codes, bytes_eq, if◌then◌else◌}
+use Rattle.std.specs.Prelude.{ℕ, ◌^◌, List, [], ◌∷◌, Option, Some, None, Result, Ok, Err, option_map, option_and_then}
+use Rattle.std.specs.Prelude.{codes, if◌then◌else◌}
 use Rattle.serde_json.specs.Data.{Data}
+use Rattle.sp_base.specs.Choice.{choice_named}
 use Rattle.sp_base.specs.declared.refusal.Refusal.{Refusal}
 use Rattle.sp_base.specs.declared.refusal.Refusal.TheVariants.{BadSubscription}
 use Rattle.sp_event.specs.declared.request.Event.{Event}
 use Rattle.sp_event.specs.declared.request.Event.TheVariants.{Bind, Unbind, Pull, Settle}
 use Rattle.sp_topic.specs.Subscription.{is_exception}
 use Rattle.sp_event.specs.declared.request.Outcome.{Outcome}
-use Rattle.sp_event.specs.declared.request.Outcome.TheVariants.{Accepted}
+use Rattle.sp_event.specs.declared.request.Outcome.TheVariants.{Accepted, Failed, Rejected}
 use Rattle.sp_json.specs.Fields.{has_key, text_at, optional_text_at, name_at, ranged_at, ranged_or}
 use Rattle.sp_base.specs.Parts.{formed, and_then}
 use Rattle.sp_json.specs.Selectors.{selector_from}
@@ -39,18 +41,26 @@ unbind_in d = option_map Unbind (ranged_at 0 (2 ^ 62) (codes "flow") d)
 -- copies for a flow, at most so many: one, where it isn't said
 abbrev pub pull_in : Data → Option Event
 pull_in d =
-    option_and_then (λ flow. option_map (Pull flow) (ranged_or 1 64 1 (codes "count") d)) (ranged_at 0 (2 ^ 62) (codes "flow") d)
+    option_and_then (λ flow. option_map (Pull flow) (ranged_or 1 64 1 (codes "count") d))
+    (ranged_at 0 (2 ^ 62) (codes "flow") d)
+
+-- all outcomes, and the word for each
+abbrev pub all_outcomes : List Outcome
+all_outcomes = Accepted ∷ Failed ∷ Rejected ∷ []
+
+abbrev pub outcome_word : Outcome → List ℕ
+outcome_word Accepted = codes "accepted"
+outcome_word Failed = codes "failed"
+outcome_word Rejected = codes "rejected"
 
 abbrev pub outcome_named : List ℕ → Option Outcome
-outcome_named word = if bytes_eq word (codes "accepted") then Some Accepted else None
+outcome_named word = choice_named outcome_word all_outcomes word
 
--- the outcome that a field names
-abbrev pub outcome_at : List ℕ → Data → Option Outcome
-outcome_at key d = option_and_then outcome_named (text_at key d)
-
--- a copy that a flow settles
+-- a copy that a flow settles, and what became of it
 abbrev pub settle_in : Data → Option Event
 settle_in d =
     option_and_then (λ flow.
     option_and_then (λ copy.
-    option_map (Settle flow copy) (outcome_at (codes "outcome") d)) (ranged_at 0 (2 ^ 62) (codes "copy") d)) (ranged_at 0 (2 ^ 62) (codes "flow") d)
+    option_map (Settle flow copy) (option_and_then outcome_named (text_at (codes "outcome") d)))
+    (ranged_at 0 (2 ^ 62) (codes "copy") d))
+    (ranged_at 0 (2 ^ 62) (codes "flow") d)

@@ -2,13 +2,15 @@
 use Rattle.std.specs.Prelude.{ℕ, List, [], ◌∷◌, codes}
 use Rattle.sp_json.specs.Names.{FieldsOf}
 use Rattle.sp_flowline.specs.declared.op.Op.{Op}
-use Rattle.sp_flowline.specs.declared.op.Op.TheVariants.{Provision, Deprovision, Change, Subscribe, Unsubscribe, Publish, Bind, Unbind, Pull, Settle, Tally, Copy, Flows}
+use Rattle.sp_flowline.specs.declared.op.Op.TheVariants.{Provision, Deprovision, Change, Subscribe, Unsubscribe}
+use Rattle.sp_flowline.specs.declared.op.Op.TheVariants.{Publish, Bind, Unbind, Pull, Settle, Tick, Delete}
+use Rattle.sp_flowline.specs.declared.op.Op.TheVariants.{Tally, Copy, Flows}
 
 -- all operations
 abbrev pub all_ops : List Op
 all_ops =
-    Provision ∷ Deprovision ∷ Change ∷ Subscribe ∷ Unsubscribe ∷ Publish ∷ Bind ∷ Unbind ∷ Pull ∷ Settle ∷ Tally ∷ Copy
-    ∷ Flows ∷ []
+    Provision ∷ Deprovision ∷ Change ∷ Subscribe ∷ Unsubscribe ∷ Publish
+    ∷ Bind ∷ Unbind ∷ Pull ∷ Settle ∷ Tick ∷ Delete ∷ Tally ∷ Copy ∷ Flows ∷ []
 
 -- the word for an operation
 abbrev pub op_word : Op → List ℕ
@@ -22,6 +24,8 @@ op_word Bind = codes "bind"
 op_word Unbind = codes "unbind"
 op_word Pull = codes "pull"
 op_word Settle = codes "settle"
+op_word Tick = codes "tick"
+op_word Delete = codes "delete"
 op_word Tally = codes "tally"
 op_word Copy = codes "copy"
 op_word Flows = codes "flows"
@@ -44,7 +48,8 @@ fields_of Unsubscribe =
 fields_of Publish = record {
   required = codes "op" ∷ [];
   one_of = codes "topic" ∷ codes "queue" ∷ [];
-  optional = codes "mode" ∷ codes "payload" ∷ codes "payload64" ∷ codes "properties" ∷ [];
+  optional =
+      codes "mode" ∷ codes "payload" ∷ codes "payload64" ∷ codes "ttl" ∷ codes "dmq" ∷ codes "properties" ∷ [];
 }
 fields_of Bind = record {
   required = codes "op" ∷ codes "endpoint" ∷ [];
@@ -55,6 +60,9 @@ fields_of Unbind = record { required = codes "op" ∷ codes "flow" ∷ []; one_o
 fields_of Pull = record { required = codes "op" ∷ codes "flow" ∷ []; one_of = []; optional = codes "count" ∷ [] }
 fields_of Settle =
     record { required = codes "op" ∷ codes "flow" ∷ codes "copy" ∷ codes "outcome" ∷ []; one_of = []; optional = [] }
+fields_of Tick = record { required = codes "op" ∷ []; one_of = []; optional = [] }
+fields_of Delete =
+    record { required = codes "op" ∷ codes "endpoint" ∷ []; one_of = []; optional = codes "copy" ∷ [] }
 fields_of Tally = record { required = codes "op" ∷ []; one_of = []; optional = codes "endpoint" ∷ [] }
 fields_of Copy = record { required = codes "op" ∷ codes "copy" ∷ []; one_of = []; optional = [] }
 fields_of Flows = record { required = codes "op" ∷ codes "endpoint" ∷ []; one_of = []; optional = [] }

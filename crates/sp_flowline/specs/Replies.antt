@@ -4,12 +4,13 @@ use Rattle.serde_json.specs.Data.{Data, string, object, member, no_members}
 use Rattle.sp_copies.specs.declared.closed.Fate.{Fate}
 use Rattle.sp_event.specs.declared.answer.PublishedCopy.{PublishedCopy}
 use Rattle.sp_event.specs.declared.answer.CopyDetails.{CopyDetails}
+use Rattle.sp_event.specs.declared.answer.CopyFate.{CopyFate}
 use Rattle.sp_event.specs.declared.answer.Tally.{Tally}
 use Rattle.sp_event.specs.declared.answer.Reply.{Reply}
 use Rattle.sp_event.specs.declared.answer.Reply.TheVariants as replies
 use Rattle.sp_json.specs.Fates.{with_fate}
 use Rattle.sp_json.specs.Members.{whole}
-use Rattle.sp_json.specs.Told.{copies_data, causes_data, with_details}
+use Rattle.sp_json.specs.Told.{copies_data, closed_data, causes_data, with_details}
 use Rattle.sp_flowline.specs.FlowReplies.{bind_data, unbind_data, pull_data, settle_data, bound_data}
 
 -- an endpoint that came, and its number
@@ -32,6 +33,21 @@ publish_data message copies unit = object
     (member (codes "copies") (copies_data copies)
     (member (codes "message") (whole message)
     (member (codes "ok") (string (codes "publish"))
+    (member (codes "unit") (whole unit) no_members))))
+
+-- the copies that ended by a tick, in the order in which they did
+abbrev pub tick_data : List CopyFate → ℕ → Data
+tick_data closed unit = object
+    (member (codes "closed") (closed_data closed)
+    (member (codes "ok") (string (codes "tick"))
+    (member (codes "unit") (whole unit) no_members)))
+
+-- the copies of an endpoint that were deleted
+abbrev pub delete_data : List ℕ → List CopyFate → ℕ → Data
+delete_data endpoint closed unit = object
+    (member (codes "closed") (closed_data closed)
+    (member (codes "endpoint") (string endpoint)
+    (member (codes "ok") (string (codes "delete"))
     (member (codes "unit") (whole unit) no_members))))
 
 abbrev pub tally_data : Tally → ℕ → Data
@@ -65,6 +81,8 @@ reply_data (replies.Bind endpoint flow discarded) unit = bind_data endpoint flow
 reply_data (replies.Unbind flow closed returned) unit = unbind_data flow closed returned unit
 reply_data (replies.Pull flow deliveries) unit = pull_data flow deliveries unit
 reply_data (replies.Settle copy fate) unit = settle_data copy fate unit
+reply_data (replies.Tick closed) unit = tick_data closed unit
+reply_data (replies.DeleteCopies endpoint closed) unit = delete_data endpoint closed unit
 reply_data (replies.Tally tally) unit = tally_data tally unit
 reply_data (replies.Copy copy fate details) unit = copy_data copy fate details unit
 reply_data (replies.Flows endpoint flows) unit = bound_data endpoint flows unit

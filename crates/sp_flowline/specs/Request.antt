@@ -1,5 +1,6 @@
 -- Which requests the bytes of a line are, and what is wrong with those that are none.
-use Rattle.std.specs.Prelude.{◌≡◌, ◌==◌, ◌⊎◌, ◌||◌, ◌&&◌, ℕ, List, Bool, not, false, Option, Some, None, Result, Ok, Err, if◌then◌else◌, codes, IsUtf8}
+use Rattle.std.specs.Prelude.{◌≡◌, ◌==◌, ◌⊎◌, ◌||◌, ◌&&◌, ℕ, List, Bool, not, false, Option, Some, None, Result, Ok}
+use Rattle.std.specs.Prelude.{Err, if◌then◌else◌, codes, IsUtf8}
 use Rattle.std.specs.List.{list_any}
 use Rattle.serde_json.specs.Data.{Data}
 use Rattle.serde_json.specs.Read.{read}
@@ -31,7 +32,8 @@ foreign = Err (BadRequest 3)
 -- whether two fields exclude each other: both forms of a payload, or both destinations
 abbrev pub has_exclusive : Data → Bool
 has_exclusive d =
-    (has_key (codes "payload") d && has_key (codes "payload64") d) || (has_key (codes "topic") d && has_key (codes "queue") d)
+    (has_key (codes "payload") d && has_key (codes "payload64") d)
+    || (has_key (codes "topic") d && has_key (codes "queue") d)
 
 -- what is read of the fields: first which they are, and then their values
 abbrev pub read_fields : Op → Data → Result Ask Refusal
@@ -56,7 +58,8 @@ pub record IsJsonLine (line : List ℕ) (d : Data) : Type 0 where
 
 -- the bytes of a line are read as this: by the value whose text they are, or by its want
 abbrev pub IsReadAs : List ℕ → Result Ask Refusal → Type 0
-IsReadAs line r = ((d : Data) × IsJsonLine line d × (reading_of d ≡ r)) ⊎ (((d : Data) → IsJsonLine line d → ⊥) × (r ≡ no_json))
+IsReadAs line r =
+    ((d : Data) × IsJsonLine line d × (reading_of d ≡ r)) ⊎ (((d : Data) → IsJsonLine line d → ⊥) × (r ≡ no_json))
 
 -- the line is read as that request or refusal; want of memory may always come
 abbrev pub Reads : List ℕ → Result Ask (Declined Refusal) → Type 0

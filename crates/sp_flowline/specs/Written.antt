@@ -1,5 +1,6 @@
 -- How a request is written: its canonical JSON value, with the keys in the order of their bytes.
-use Rattle.std.specs.Prelude.{◌≡◌, ◌≤◌, ◌^◌, ◌&&◌, ℕ, List, [], ◌∷◌, Bool, true, false, Option, Some, None, Ok, IfSome, length, codes, slice_get}
+use Rattle.std.specs.Prelude.{◌≡◌, ◌≤◌, ◌^◌, ◌&&◌, ℕ, List, [], ◌∷◌, Bool, true, false, Option, Some, None, Ok, ⊤}
+use Rattle.std.specs.Prelude.{IfSome, length, codes, slice_get}
 use Rattle.std.specs.List.{list_all}
 use Rattle.std.specs.Option.{option_map, unwrap_or}
 use Rattle.serde_json.specs.Data.{Data, boolean, string, object, Members, member, no_members, put}
@@ -22,7 +23,6 @@ use Rattle.sp_event.specs.declared.request.Ask.{Ask}
 use Rattle.sp_event.specs.declared.request.Ask.TheVariants.{Do, Look}
 use Rattle.sp_event.specs.declared.request.Event.{Event}
 use Rattle.sp_event.specs.declared.request.Event.TheVariants as events
-use Rattle.sp_event.specs.declared.request.Outcome.TheVariants.{Accepted}
 use Rattle.sp_event.specs.declared.request.Query.{Query}
 use Rattle.sp_event.specs.declared.request.Query.TheVariants as queries
 use Rattle.sp_topic.specs.Subscription.{IsSubscription, is_exception}
@@ -33,7 +33,7 @@ use Rattle.sp_json.specs.Properties.{properties_members}
 use Rattle.sp_message.specs.Property.{are_properties}
 use Rattle.sp_message.specs.declared.property.Property.{Property}
 use Rattle.sp_selector.specs.Takes.{selector_fault}
-use Rattle.sp_flowline.specs.Publishes.{message_to}
+use Rattle.sp_flowline.specs.FlowEvents.{outcome_word}
 use Rattle.sp_flowline.specs.Request.{reading_of}
 
 -- the word at a place among those that an attribute may be
@@ -83,6 +83,11 @@ with_selector (Some text) ms = put (codes "selector") (string text) ms
 abbrev pub with_properties : List Property → Members → Members
 with_properties properties ms = put (codes "properties") (object (properties_members properties)) ms
 
+-- fields with a copy, where one is named
+abbrev pub with_copy : Option ℕ → Members → Members
+with_copy None ms = ms
+with_copy (Some copy) ms = put (codes "copy") (whole copy) ms
+
 -- an event as it is written
 abbrev pub event_data : Event → Data
 event_data (events.Provision endpoint kind settings) =
@@ -96,15 +101,20 @@ event_data (events.Subscribe endpoint subscription) =
 event_data (events.Unsubscribe endpoint subscription) =
     object (put (codes "subscription") (string subscription) (with_endpoint endpoint (of_op (codes "unsubscribe"))))
 event_data (events.Publish m) =
-    object (with_payload m.payload (with_destination m.dest (with_properties m.properties (of_op (codes "publish")))))
+    object (with_payload m.payload (with_destination m.dest
+    (put (codes "ttl") (whole m.ttl) (put (codes "dmq") (boolean m.eligible)
+    (with_properties m.properties (of_op (codes "publish")))))))
 event_data (events.Bind endpoint selector topic) =
     object (with_topic topic (with_selector selector (with_endpoint endpoint (of_op (codes "bind")))))
 event_data (events.Unbind flow) = object (put (codes "flow") (whole flow) (of_op (codes "unbind")))
 event_data (events.Pull flow count) =
     object (put (codes "count") (whole count) (put (codes "flow") (whole flow) (of_op (codes "pull"))))
-event_data (events.Settle flow copy Accepted) =
-    object (put (codes "outcome") (string (codes "accepted"))
+event_data (events.Settle flow copy outcome) =
+    object (put (codes "outcome") (string (outcome_word outcome))
     (put (codes "copy") (whole copy) (put (codes "flow") (whole flow) (of_op (codes "settle")))))
+event_data events.Tick = object (of_op (codes "tick"))
+event_data (events.DeleteCopies endpoint copy) =
+    object (with_copy copy (with_endpoint endpoint (of_op (codes "delete"))))
 
 -- a query as it is written
 abbrev pub query_data : Query → Data
@@ -134,8 +144,8 @@ abbrev pub IsSendable : Dest → Type 0
 IsSendable (Topic topic) = IsTopic topic
 IsSendable (Queue name) = is_name name ≡ true
 
--- what events and queries always keep, and what lines can say: a message goes without a time to live and isn't
--- eligible, an endpoint is given what its kind may have, and a bind's topic is no exception
+-- what events and queries always keep, and what lines can say: an endpoint is given what its kind may have, and the
+-- topic of a bind is no exception
 abbrev pub EventCanBeWritten : Event → Type 0
 EventCanBeWritten (events.Provision endpoint kind settings) =
     (is_name endpoint ≡ true) × MayHave kind settings
@@ -145,14 +155,17 @@ EventCanBeWritten (events.Change endpoint settings) =
 EventCanBeWritten (events.Subscribe endpoint subscription) = (is_name endpoint ≡ true) × IsSubscription subscription
 EventCanBeWritten (events.Unsubscribe endpoint subscription) = (is_name endpoint ≡ true) × IsSubscription subscription
 EventCanBeWritten (events.Publish m) =
-    (m ≡ message_to m.dest m.payload m.properties) × IsSendable m.dest × (length m.payload ≤ 8388608)
-    × AreBytes m.payload × (are_properties m.properties ≡ true)
+    IsSendable m.dest × (length m.payload ≤ 8388608) × AreBytes m.payload × (m.ttl ≤ 4294967295000)
+    × (are_properties m.properties ≡ true)
 EventCanBeWritten (events.Bind endpoint selector topic) =
     (is_name endpoint ≡ true) × IfSome selector (λ text. selector_fault text ≡ None)
     × IfSome topic (λ text. IsSubscription text × (is_exception text ≡ false))
 EventCanBeWritten (events.Unbind flow) = flow ≤ 2 ^ 62
 EventCanBeWritten (events.Pull flow count) = (flow ≤ 2 ^ 62) × (1 ≤ count) × (count ≤ 64)
 EventCanBeWritten (events.Settle flow copy outcome) = (flow ≤ 2 ^ 62) × (copy ≤ 2 ^ 62)
+EventCanBeWritten events.Tick = ⊤
+EventCanBeWritten (events.DeleteCopies endpoint copy) =
+    (is_name endpoint ≡ true) × IfSome copy (λ copy. copy ≤ 2 ^ 62)
 
 abbrev pub CanBeWritten : Ask → Type 0
 CanBeWritten (Do event) = EventCanBeWritten event

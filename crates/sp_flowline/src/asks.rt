@@ -6,7 +6,7 @@ ghost use Rattle.sp_base.specs.Declined.{Obeys};
 ghost use Rattle.sp_base.specs.Parts.{formed};
 
 use crate::endpoint_events::{
-    change_in, deprovision_in, provision_in, subscribe_in, unsubscribe_in,
+    change_in, delete_in, deprovision_in, provision_in, subscribe_in, unsubscribe_in,
 };
 use crate::flow_events::{bind_in, pull_in, settle_in, unbind_in};
 use crate::op::Op;
@@ -36,6 +36,8 @@ pub fn ask_in(alloc: Global, value: &Value, op: Op) -> Result<Ask, Declined<Refu
         Op::Unbind => done(unbind_in(value)),
         Op::Pull => done(pull_in(value)),
         Op::Settle => done(settle_in(value)),
+        Op::Tick => Ok(Ask::Do(Event::Tick)),
+        Op::Delete => done(delete_in(alloc, value)?),
         Op::Tally => looked(tally_in(alloc, value)?),
         Op::Copy => looked(copy_in(value)),
         Op::Flows => looked(flows_in(alloc, value)?),

@@ -1,7 +1,7 @@
 // Requests of endpoints, from the fields of a JSON object.
 ghost use Rattle.std.specs.Prelude.{◌≡◌, IfOk};
 ghost use Rattle.serde_json.specs.View.{view};
-ghost use Rattle.sp_flowline.specs.EndpointEvents.{provision_in, deprovision_in, change_in, subscribe_in, unsubscribe_in};
+ghost use Rattle.sp_flowline.specs.EndpointEvents.{provision_in, deprovision_in, change_in, subscribe_in, unsubscribe_in, delete_in};
 ghost use Rattle.sp_base.specs.Declined.{Obeys};
 
 use serde_json::Value;
@@ -10,7 +10,7 @@ use sp_base::refusal::Refusal;
 use sp_config::kind::EndpointKind;
 use sp_event::request::Event;
 use sp_json::attributes::{optional_settings_at, settings_at};
-use sp_json::fields::{choice_or, name_at};
+use sp_json::fields::{choice_or, name_at, optional_ranged_at};
 use sp_json::parts::malformed;
 use sp_json::subscriptions::subscription_at;
 use std::alloc::{AllocError, Global};
@@ -84,4 +84,18 @@ pub fn unsubscribe_in(alloc: Global, value: &Value) -> Result<Event, Declined<Re
         endpoint,
         subscription,
     })
+}
+
+/// The end of copies of an endpoint: of one, where it is named. None where `endpoint` is no name or
+/// `copy` no number of a copy.
+pub fn delete_in(alloc: Global, value: &Value) -> Result<Option<Event>, AllocError>
+    ensures { IfOk result (λ r. r ≡ delete_in (view value.now)) }
+{
+    let Some(endpoint) = name_at(alloc, value, "endpoint")? else {
+        return Ok(None);
+    };
+    let Some(copy) = optional_ranged_at(value, "copy") else {
+        return Ok(None);
+    };
+    Ok(Some(Event::DeleteCopies { endpoint, copy }))
 }

@@ -1,7 +1,7 @@
 // Requests of flows, from the fields of a JSON object.
 ghost use Rattle.std.specs.Prelude.{◌≡◌};
 ghost use Rattle.serde_json.specs.View.{view};
-ghost use Rattle.sp_flowline.specs.FlowEvents.{plain_of, optional_plain_at, bind_in, unbind_in, pull_in, outcome_at, settle_in};
+ghost use Rattle.sp_flowline.specs.FlowEvents.{plain_of, optional_plain_at, bind_in, unbind_in, pull_in, outcome_named, settle_in};
 ghost use Rattle.sp_base.specs.Declined.{Obeys};
 
 use serde_json::Value;
@@ -81,7 +81,7 @@ pub fn settle_in(value: &Value) -> Option<Event>
 {
     let flow = ranged_at(value, "flow")?;
     let copy = ranged_at(value, "copy")?;
-    let outcome = outcome_at(value, "outcome")?;
+    let outcome = outcome_named(text_at(value, "outcome")?)?;
     Some(Event::Settle {
         flow,
         copy,
@@ -89,13 +89,13 @@ pub fn settle_in(value: &Value) -> Option<Event>
     })
 }
 
-// The outcome that a field names.
-fn outcome_at(value: &Value, key: &str) -> Option<Outcome>
-    ensures { result ≡ outcome_at key.now (view value.now) }
+fn outcome_named(word: &str) -> Option<Outcome>
+    ensures { result ≡ outcome_named word.now }
 {
-    let word = text_at(value, key)?;
-    if word == "accepted" {
-        return Some(Outcome::Accepted);
+    match word {
+        "accepted" => Some(Outcome::Accepted),
+        "failed" => Some(Outcome::Failed),
+        "rejected" => Some(Outcome::Rejected),
+        _ => None,
     }
-    None
 }

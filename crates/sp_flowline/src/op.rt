@@ -17,6 +17,8 @@ pub enum Op {
     Unbind,
     Pull,
     Settle,
+    Tick,
+    Delete,
     Tally,
     Copy,
     Flows,
@@ -24,7 +26,7 @@ pub enum Op {
 
 impl Choice for Op {
     ghost use Rattle.std.specs.Prelude.{refl};
-    ghost use Rattle.sp_flowline.specs.declared.op.Op.TheVariants.{Provision, Deprovision, Change, Subscribe, Unsubscribe, Publish, Bind, Unbind, Pull, Settle, Tally, Copy, Flows};
+    ghost use Rattle.sp_flowline.specs.declared.op.Op.TheVariants.{Provision, Deprovision, Change, Subscribe, Unsubscribe, Publish, Bind, Unbind, Pull, Settle, Tick, Delete, Tally, Copy, Flows};
     ghost use Rattle.sp_flowline.specs.Op.{op_word, all_ops};
 
     ghost word_of = { op_word };
@@ -43,6 +45,8 @@ impl Choice for Op {
             Op::Unbind => "unbind",
             Op::Pull => "pull",
             Op::Settle => "settle",
+            Op::Tick => "tick",
+            Op::Delete => "delete",
             Op::Tally => "tally",
             Op::Copy => "copy",
             Op::Flows => "flows",
@@ -61,13 +65,15 @@ impl Choice for Op {
             Op::Unbind,
             Op::Pull,
             Op::Settle,
+            Op::Tick,
+            Op::Delete,
             Op::Tally,
             Op::Copy,
             Op::Flows,
         ]
     }
 
-    ghost each_by_its_word = { elim [ Provision ↦ refl | Deprovision ↦ refl | Change ↦ refl | Subscribe ↦ refl | Unsubscribe ↦ refl | Publish ↦ refl | Bind ↦ refl | Unbind ↦ refl | Pull ↦ refl | Settle ↦ refl | Tally ↦ refl | Copy ↦ refl | Flows ↦ refl ] };
+    ghost each_by_its_word = { elim [ Provision ↦ refl | Deprovision ↦ refl | Change ↦ refl | Subscribe ↦ refl | Unsubscribe ↦ refl | Publish ↦ refl | Bind ↦ refl | Unbind ↦ refl | Pull ↦ refl | Settle ↦ refl | Tick ↦ refl | Delete ↦ refl | Tally ↦ refl | Copy ↦ refl | Flows ↦ refl ] };
 }
 
 impl Op {
@@ -85,12 +91,14 @@ impl Op {
             Op::Publish => FieldNames::new(
                 &["op"],
                 &["topic", "queue"],
-                &["mode", "payload", "payload64", "properties"],
+                &["mode", "payload", "payload64", "ttl", "dmq", "properties"],
             ),
             Op::Bind => FieldNames::new(&["op", "endpoint"], &[], &["selector", "topic"]),
             Op::Unbind => FieldNames::new(&["op", "flow"], &[], &[]),
             Op::Pull => FieldNames::new(&["op", "flow"], &[], &["count"]),
             Op::Settle => FieldNames::new(&["op", "flow", "copy", "outcome"], &[], &[]),
+            Op::Tick => FieldNames::new(&["op"], &[], &[]),
+            Op::Delete => FieldNames::new(&["op", "endpoint"], &[], &["copy"]),
             Op::Tally => FieldNames::new(&["op"], &[], &["endpoint"]),
             Op::Copy => FieldNames::new(&["op", "copy"], &[], &[]),
             Op::Flows => FieldNames::new(&["op", "endpoint"], &[], &[]),

@@ -11,7 +11,7 @@ use sp_base::declined::Declined;
 use sp_base::refusal::Refusal;
 use sp_base::topic::{Topic, TopicError};
 use sp_event::request::Event;
-use sp_json::fields::{choice_or, has_key, name_at, text_at};
+use sp_json::fields::{choice_or, flag_or, has_key, name_at, ranged_or, text_at};
 use sp_json::parts::malformed;
 use sp_json::payloads::payload_in;
 use sp_json::properties::properties_at;
@@ -34,39 +34,53 @@ pub fn publish_in(alloc: Global, value: &Value) -> Result<Event, Declined<Refusa
     let Some(payload) = payload_in(alloc, value)? else {
         return Err(malformed());
     };
+    let Some(ttl) = ranged_or(value, "ttl", TimeToLive::of(0)) else {
+        return Err(malformed());
+    };
+    let Some(eligible) = flag_or(value, "dmq", false) else {
+        return Err(malformed());
+    };
     let Some(properties) = properties_at(alloc, value, "properties")? else {
         return Err(malformed());
     };
-    sent(mode, dest, payload, properties)
+    sent(mode, dest, payload, ttl, eligible, properties)
 }
 
 fn sent(
     mode: Mode,
     dest: Result<Dest, Refusal>,
     payload: Payload,
+    ttl: TimeToLive,
+    eligible: bool,
     properties: Properties,
 ) -> Result<Event, Declined<Refusal>>
-    ensures { Obeys (sent mode dest payload properties) result }
+    ensures { Obeys (sent mode dest payload ttl eligible properties) result }
 {
     if mode == Mode::Direct {
         return Err(Declined::Refused(Refusal::DirectMode));
     }
     match dest {
         Ok(dest) => Ok(Event::Publish {
-            message: message_to(dest, payload, properties),
+            message: message_to(dest, payload, ttl, eligible, properties),
         }),
         Err(refusal) => Err(Declined::Refused(refusal)),
     }
 }
 
-fn message_to(dest: Dest, payload: Payload, properties: Properties) -> Message
-    ensures { result ≡ message_to dest payload properties }
+fn message_to(
+    dest: Dest,
+    payload: Payload,
+    ttl: TimeToLive,
+    eligible: bool,
+    properties: Properties,
+) -> Message
+    ensures { result ≡ message_to dest payload ttl eligible properties }
 {
     Message {
         dest,
         payload,
-        ttl: TimeToLive::of(0),
-        eligible: false,
+        ttl,
+        eligible,
         properties,
     }
 }

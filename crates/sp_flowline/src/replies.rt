@@ -1,15 +1,15 @@
 // Replies as JSON values.
 ghost use Rattle.std.specs.Prelude.{◌≡◌, IfOk};
 ghost use Rattle.serde_json.specs.View.{view};
-ghost use Rattle.sp_flowline.specs.Replies.{provision_data, endpoint_data, publish_data, tally_data, copy_data, reply_data};
+ghost use Rattle.sp_flowline.specs.Replies.{provision_data, endpoint_data, publish_data, tick_data, delete_data, tally_data, copy_data, reply_data};
 
 use crate::flow_replies::{bind_value, bound_value, pull_value, settle_value, unbind_value};
 use serde_json::{Map, Value, json};
 use sp_copies::closed::Fate;
-use sp_event::answer::{CopyDetails, PublishedCopy, Reply, Tally};
+use sp_event::answer::{CopyDetails, CopyFate, PublishedCopy, Reply, Tally};
 use sp_json::fates::put_fate;
 use sp_json::members::{put_text, put_whole};
-use sp_json::told::{causes_value, copies_value, put_details};
+use sp_json::told::{causes_value, closed_value, copies_value, put_details};
 use std::alloc::{AllocError, Global};
 
 fn provision_value(
@@ -39,6 +39,25 @@ fn publish_value(
 {
     let copies = copies_value(alloc, copies)?;
     json!(in alloc; {"copies": copies, "message": message, "ok": "publish", "unit": unit})
+}
+
+fn tick_value(alloc: Global, closed: &[CopyFate], unit: u64) -> Result<Value, AllocError>
+    ensures { IfOk result (λ v. view v ≡ tick_data closed.now unit) }
+{
+    let closed = closed_value(alloc, closed)?;
+    json!(in alloc; {"closed": closed, "ok": "tick", "unit": unit})
+}
+
+fn delete_value(
+    alloc: Global,
+    endpoint: &str,
+    closed: &[CopyFate],
+    unit: u64,
+) -> Result<Value, AllocError>
+    ensures { IfOk result (λ v. view v ≡ delete_data endpoint.now closed.now unit) }
+{
+    let closed = closed_value(alloc, closed)?;
+    json!(in alloc; {"closed": closed, "endpoint": endpoint, "ok": "delete", "unit": unit})
 }
 
 fn tally_value(alloc: Global, t: &Tally, unit: u64) -> Result<Value, AllocError>
@@ -101,6 +120,10 @@ pub fn reply_value(alloc: Global, reply: &Reply, unit: u64) -> Result<Value, All
             pull_value(alloc, flow.value(), deliveries.as_slice(), unit)
         }
         Reply::Settle { copy, fate } => settle_value(alloc, copy.value(), *fate, unit),
+        Reply::Tick { closed } => tick_value(alloc, closed.as_slice(), unit),
+        Reply::DeleteCopies { endpoint, closed } => {
+            delete_value(alloc, endpoint.as_str(), closed.as_slice(), unit)
+        }
         Reply::Tally(tally) => tally_value(alloc, tally, unit),
         Reply::Copy {
             copy,

@@ -1,3 +1,4 @@
+mod endings;
 mod endpoints;
 mod flows;
 mod properties;

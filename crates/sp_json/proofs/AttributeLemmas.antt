@@ -1,5 +1,6 @@
 -- The settings that attributes give are settings: each once, in order, and in its range.
-use Rattle.std.proofs.Common.{◌≡◌, ◌∙◌, ℕ, ◌+◌, ◌<◌, ◌++◌, length, get_or, take, ap, sym, Bool, true, false, List, [], ◌∷◌, Option, Some, None, refl, subst}
+use Rattle.std.proofs.Common.{◌≡◌, ◌∙◌, ℕ, ◌+◌, ◌<◌, ◌++◌, length, get_or, take, ap, sym, Bool, true, false, List, []}
+use Rattle.std.proofs.Common.{◌∷◌, Option, Some, None, refl, subst}
 use Rattle.std.specs.Prelude.{◌&&◌, if◌then◌else◌}
 use Rattle.std.specs.List.{list_all, filter_map, cons_option}
 use Rattle.std.specs.Option.{option_and_then}
@@ -19,8 +20,10 @@ use Rattle.sp_config.proofs.Settled.{few}
 use Rattle.sp_json.specs.Attributes.{allowed, setting_from, settings_of}
 
 -- one item more, and what it gives
-pub filter_map_more : {X Y : Type 0} (f : X → Option Y) (xs : List X) (i : ℕ) (d : X) (rows after : List Y) (found : Option Y) → i < length xs
-    → rows ≡ filter_map f (take i xs) → found ≡ f (get_or xs i d) → after ≡ rows ++ cons_option found [] → after ≡ filter_map f (take (i + 1) xs)
+pub filter_map_more : {X Y : Type 0} (f : X → Option Y) (xs : List X) (i : ℕ) (d : X) (rows after : List Y)
+    (found : Option Y) → i < length xs
+    → rows ≡ filter_map f (take i xs) → found ≡ f (get_or xs i d) → after ≡ rows ++ cons_option found []
+    → after ≡ filter_map f (take (i + 1) xs)
 filter_map_more f xs i d rows after found less so_far here e =
     let last = ap (filter_map f) (take_more xs i d less) ∙ filter_map-append f (take i xs) (get_or xs i d ∷ []) in
     e ∙ rw (so_far, here) (sym last)
@@ -45,22 +48,26 @@ allowed_is kind a v s true h e =
     subst (λ (t : Setting). (t.attr ≡ a) × (is_in_range t.attr t.value ≡ true)) same (refl, in_range kind a v h)
 allowed_is kind a v s false h e = absurd (cc)
 
-value_is : (kind : EndpointKind) (a : Attr) (s : Setting) (v : Option AttrValue) → option_and_then (allowed kind a) v ≡ Some s → IsOf a s
+value_is : (kind : EndpointKind) (a : Attr) (s : Setting) (v : Option AttrValue)
+    → option_and_then (allowed kind a) v ≡ Some s → IsOf a s
 value_is kind a s None e = absurd (cc)
 value_is kind a s (Some v) e = allowed_is kind a v s (is_allowed kind a v) refl e
 
-member_is : (kind : EndpointKind) (a : Attr) (s : Setting) (d : Option Data) → option_and_then (setting_from kind a) d ≡ Some s → IsOf a s
+member_is : (kind : EndpointKind) (a : Attr) (s : Setting) (d : Option Data)
+    → option_and_then (setting_from kind a) d ≡ Some s → IsOf a s
 member_is kind a s None e = absurd (cc)
 member_is kind a s (Some d) e = value_is kind a s _ e
 
 module _ (f : Attr → Option Setting) (is_of : (a : Attr) (s : Setting) → f a ≡ Some s → IsOf a s) where
-  one_more : (a : Attr) (rest : List Setting) (found : Option Setting) → f a ≡ found → list_all (λ (s : Setting). is_in_range s.attr s.value) rest ≡ true
+  one_more : (a : Attr) (rest : List Setting) (found : Option Setting) → f a ≡ found
+      → list_all (λ (s : Setting). is_in_range s.attr s.value) rest ≡ true
       → list_all (λ (s : Setting). is_in_range s.attr s.value) (cons_option found rest) ≡ true
   unfolding IsOf
   one_more a rest None e h = h
   one_more a rest (Some s) e h = rw (is_of a s e).1 h
 
-  all_in_range : (attrs : List Attr) → list_all (λ (s : Setting). is_in_range s.attr s.value) (filter_map f attrs) ≡ true
+  all_in_range : (attrs : List Attr)
+      → list_all (λ (s : Setting). is_in_range s.attr s.value) (filter_map f attrs) ≡ true
   all_in_range [] = refl
   all_in_range (a ∷ attrs) = one_more a (filter_map f attrs) (f a) refl (all_in_range attrs)
 
@@ -69,5 +76,6 @@ pub given_are_settings : (kind : EndpointKind) (d : Data) → are_settings (sett
 unfolding IsOf
 given_are_settings kind d =
     let f : Attr → Option Setting = λ a. option_and_then (setting_from kind a) (get (name_of a) d) in
-    let is_of : (a : Attr) (s : Setting) → f a ≡ Some s → IsOf a s = λ a s e. member_is kind a s (get (name_of a) d) e in
+    let is_of : (a : Attr) (s : Setting) → f a ≡ Some s → IsOf a s =
+    λ a s e. member_is kind a s (get (name_of a) d) e in
     rw (all_in_range f is_of all_attrs) (few f (λ a s e. (is_of a s e).0))

@@ -8,11 +8,15 @@ use Rattle.serde_json.specs.Find.{as_object}
 use Rattle.serde_json.specs.View.{members_view}
 use Rattle.sp_json.specs.Names.{FieldsOf, has_field, another_member, another_field}
 
-pub another-keys : (fields : FieldsOf) (ms : List (String Global × Value)) → list_any (λ key. not (has_field fields (string_bytes key))) (map (λ m. m.0) ms) ≡ another_member fields (members_view ms)
+pub another-keys : (fields : FieldsOf) (ms : List (String Global × Value))
+    → list_any (λ key. not (has_field fields (string_bytes key))) (map (λ m. m.0) ms)
+    ≡ another_member fields (members_view ms)
 another-keys fields [] = refl
-another-keys fields (m ∷ ms) = ap (λ (b : Bool). not (has_field fields (string_bytes m.0)) || b) (another-keys fields ms)
+another-keys fields (m ∷ ms) =
+    ap (λ (b : Bool). not (has_field fields (string_bytes m.0)) || b) (another-keys fields ms)
 
-pub another-object : (fields : FieldsOf) (d : Data) (ms : Members) → Some ms ≡ as_object d → another_member fields ms ≡ another_field fields d
+pub another-object : (fields : FieldsOf) (d : Data) (ms : Members) → Some ms ≡ as_object d
+    → another_member fields ms ≡ another_field fields d
 another-object fields null ms e = absurd (cc)
 another-object fields (boolean b) ms e = absurd (cc)
 another-object fields (number n) ms e = absurd (cc)

@@ -23,7 +23,8 @@ was_ok (Ok b) bytes e = let same : b ≡ bytes = cc in ap Ok same
 was_ok (Err d) bytes e = absurd (cc)
 
 -- a text is read as bytes exactly where it is their base64
-pub base64_is_strict : (text bytes : List ℕ) → IsBytes text → IsBytes bytes → (from_base64 text ≡ Some bytes) ↔ (text ≡ base64_of bytes)
+pub base64_is_strict : (text bytes : List ℕ) → IsBytes text → IsBytes bytes
+    → (from_base64 text ≡ Some bytes) ↔ (text ≡ base64_of bytes)
 unfolding from_base64 base64_of
 base64_is_strict text bytes t b =
     let both = decode_of_iff standard text bytes (refl, refl) t b in

@@ -1,5 +1,6 @@
 -- Properties are read back as they are shown.
-use Rattle.std.proofs.Common.{◌≡◌, ◌∙◌, ◌++◌, ◌+◌, ◌<◌, ◌^◌, ◌-◌, ℕ, zero, suc, length, drop, get_or, true, List, [], ◌∷◌, Option, Some, None, refl, sym, ap, arith, append_assoc}
+use Rattle.std.proofs.Common.{◌≡◌, ◌∙◌, ◌++◌, ◌+◌, ◌<◌, ◌^◌, ◌-◌, ℕ, zero, suc, length, drop, get_or, true, List, []}
+use Rattle.std.proofs.Common.{◌∷◌, Option, Some, None, refl, sym, ap, arith, append_assoc}
 use Rattle.std.specs.Prelude.{◌≤◌, ◌*◌, nat_le, nat_lt, pos, negsuc, unsigned_abs}
 use Rattle.std.specs.List.{list_all}
 use Rattle.std.specs.Ordering.{nat_cmp, is_lt, match_ordering}
@@ -28,7 +29,8 @@ after rows rest = option_map (λ (more : List Property). rows ++ more) rest
 pub row_added : (rows : List Property) (name : List ℕ) (value : Value) (rest : Option (List Property)) →
     after rows (followed name rest value) ≡ after (rows ++ record { name = name; value = value } ∷ []) rest
 row_added rows name value None = refl
-row_added rows name value (Some ps) = ap (λ (qs : List Property). Some qs) (sym (append_assoc rows (record { name = name; value = value } ∷ []) ps))
+row_added rows name value (Some ps) =
+    ap (λ (qs : List Property). Some qs) (sym (append_assoc rows (record { name = name; value = value } ∷ []) ps))
 
 -- a member whose value is one
 pub member_some : (name : List ℕ) (d : Data) (ms : Members) (value : Value) → value_from d ≡ Some value →
@@ -36,8 +38,10 @@ pub member_some : (name : List ℕ) (d : Data) (ms : Members) (value : Value) �
 member_some name d ms value is = ap (option_and_then (followed name (rows_from ms))) is
 
 -- what was read with it
-pub row_read : (rows more : List Property) (name : List ℕ) (d : Data) (ms : Members) (value : Value) (all : Option (List Property)) →
-    after rows (rows_from (member name d ms)) ≡ all → value_from d ≡ Some value → more ≡ rows ++ record { name = name; value = value } ∷ [] →
+pub row_read : (rows more : List Property) (name : List ℕ) (d : Data) (ms : Members) (value : Value)
+    (all : Option (List Property)) →
+    after rows (rows_from (member name d ms)) ≡ all → value_from d ≡ Some value
+    → more ≡ rows ++ record { name = name; value = value } ∷ [] →
     after more (rows_from ms) ≡ all
 row_read rows more name d ms value all so_far is next =
     ap (λ (r : List Property). after r (rows_from ms)) next
@@ -64,11 +68,13 @@ rise_from (suc i) (p ∷ []) h = rise_from i [] refl
 rise_from (suc i) (p ∷ q ∷ qs) h = rise_from i (q ∷ qs) (split_and (comes_before p q) (names_rise (q ∷ qs)) h).1
 
 pub put_next : (rows : List Property) (i : ℕ) (d : Property) → i < length rows → are_properties rows ≡ true →
-    put (get_or rows i d).name (value_data (get_or rows i d).value) (properties_members (drop (i + 1) rows)) ≡ properties_members (drop i rows)
+    put (get_or rows i d).name (value_data (get_or rows i d).value) (properties_members (drop (i + 1) rows))
+    ≡ properties_members (drop i rows)
 put_next rows i d lt h =
     let rise : names_rise rows ≡ true = (split_and _ (names_rise rows) h).1 in
     let more : drop i rows ≡ get_or rows i d ∷ drop (i + 1) rows = drop_more rows i d lt in
-    put_first (get_or rows i d) (drop (i + 1) rows) (sym (ap names_rise more) ∙ rise_from i rows rise) ∙ ap properties_members (sym more)
+    put_first (get_or rows i d) (drop (i + 1) rows) (sym (ap names_rise more) ∙ rise_from i rows rise)
+    ∙ ap properties_members (sym more)
 
 -- a value that keeps its rule is read back
 value_back : (v : Value) → is_in_range v ≡ true → value_from (value_data v) ≡ Some v
@@ -96,7 +102,8 @@ rows_back (p ∷ ps) h =
     third : is_property p ≡ true → is_in_range p.value ≡ true
     third is = (split_and _ (is_in_range p.value) (split_and _ (list_all is_name_byte p.name) is).0).1
 
-pub properties_back : (ps : List Property) → are_properties ps ≡ true → properties_from (object (properties_members ps)) ≡ Some ps
+pub properties_back : (ps : List Property) → are_properties ps ≡ true
+    → properties_from (object (properties_members ps)) ≡ Some ps
 properties_back ps h =
     let rules = split_and _ _ (split_and _ _ h).0 in
     ap (option_and_then kept) (rows_back ps rules.1) ∙ cond-true _ _ _ h

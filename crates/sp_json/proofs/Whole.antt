@@ -1,5 +1,6 @@
 -- What is shown has whole numbers alone.
-use Rattle.std.proofs.Common.{◌≡◌, ℕ, Bool, List, [], ◌∷◌, map, fold, false, true, ◌||◌, Option, Some, None, if◌then◌else◌, codes, refl, ap, ◌∙◌}
+use Rattle.std.proofs.Common.{◌≡◌, ℕ, Bool, List, [], ◌∷◌, map, fold, false, true, ◌||◌, Option, Some, None}
+use Rattle.std.proofs.Common.{if◌then◌else◌, codes, refl, ap, ◌∙◌}
 use Rattle.std.specs.Prelude.{pos, negsuc}
 use Rattle.std.specs.Ordering.{nat_cmp, match_ordering}
 use Rattle.std.specs.Str.{is_utf8}
@@ -37,7 +38,8 @@ use Rattle.sp_json.specs.Refusals.{shown_data, with_shown, shown_members}
 use Rattle.sp_json.specs.Told.{told_data, fate_data, with_cause, with_details}
 
 -- fields without a float stay so with one more
-pub put_whole : (key : List ℕ) (d : Data) (ms : Members) → has_float d ≡ false → members_have_float ms ≡ false → members_have_float (put key d ms) ≡ false
+pub put_whole : (key : List ℕ) (d : Data) (ms : Members) → has_float d ≡ false → members_have_float ms ≡ false
+    → members_have_float (put key d ms) ≡ false
 put_whole key d no_members w h = rw w refl
 put_whole key d (member l e ms) w h = placed (put_whole key d ms w (later (has_float e) h)) (slice_cmp nat_cmp key l)
   where
@@ -49,7 +51,9 @@ put_whole key d (member l e ms) w h = placed (put_whole key d ms w (later (has_f
     later false k = k
     later true k = absurd (cc)
 
-    placed : members_have_float (put key d ms) ≡ false → (o : Ordering) → members_have_float (match_ordering o (member key d (member l e ms)) (member l d ms) (member l e (put key d ms))) ≡ false
+    placed : members_have_float (put key d ms) ≡ false → (o : Ordering)
+        → members_have_float (match_ordering o (member key d (member l e ms)) (member l d ms)
+        (member l e (put key d ms))) ≡ false
     placed rest Less = ap (λ (b : Bool). b || members_have_float (member l e ms)) w ∙ h
     placed rest Equal = ap (λ (b : Bool). b || members_have_float ms) w ∙ later (has_float e) h
     placed rest Greater = ap (λ (b : Bool). b || members_have_float (put key d ms)) (first (has_float e) h) ∙ rest
@@ -62,11 +66,15 @@ ended (fates.Moved to) ms h = put_whole _ (whole to) ms refl h
 ended (fates.Discarded cause) ms h = put_whole _ (string (cause_word cause)) ms refl h
 ended fates.Earlier ms h = h
 
-pub fated : (fate : Fate) (ms : Members) → members_have_float ms ≡ false → members_have_float (with_fate fate ms) ≡ false
-fated fate ms h = ended fate (put (codes "fate") (string (fate_word fate)) ms) (put_whole (codes "fate") (string (fate_word fate)) ms refl h)
+pub fated : (fate : Fate) (ms : Members) → members_have_float ms ≡ false
+    → members_have_float (with_fate fate ms) ≡ false
+fated fate ms h =
+    ended fate (put (codes "fate") (string (fate_word fate)) ms)
+    (put_whole (codes "fate") (string (fate_word fate)) ms refl h)
 
 told : (c : PublishedCopy) → has_float (told_data c) ≡ false
-told c = fated c.fate (member (codes "copy") (whole c.copy) (member (codes "endpoint") (string c.endpoint) no_members)) refl
+told c =
+    fated c.fate (member (codes "copy") (whole c.copy) (member (codes "endpoint") (string c.endpoint) no_members)) refl
 
 pub copies : (cs : List PublishedCopy) → items_have_float (items_of (map told_data cs)) ≡ false
 copies [] = refl
@@ -79,14 +87,18 @@ pub closed : (cs : List CopyFate) → items_have_float (items_of (map fate_data 
 closed [] = refl
 closed (c ∷ cs) = ap (λ (b : Bool). b || items_have_float (items_of (map fate_data cs))) (ended_copy c) ∙ closed cs
 
-paid : (bytes : List ℕ) (ms : Members) → members_have_float ms ≡ false → members_have_float (with_payload bytes ms) ≡ false
+paid : (bytes : List ℕ) (ms : Members) → members_have_float ms ≡ false
+    → members_have_float (with_payload bytes ms) ≡ false
 paid bytes ms h = shown (is_utf8 bytes)
   where
-    shown : (b : Bool) → members_have_float (if b then put (codes "payload") (string bytes) ms else put (codes "payload64") (string (base64_of bytes)) ms) ≡ false
+    shown : (b : Bool) → members_have_float
+        (if b then put (codes "payload") (string bytes) ms else put (codes "payload64") (string (base64_of bytes)) ms)
+        ≡ false
     shown true = put_whole (codes "payload") (string bytes) ms refl h
     shown false = put_whole (codes "payload64") (string (base64_of bytes)) ms refl h
 
-sent : (dest : Dest) (ms : Members) → members_have_float ms ≡ false → members_have_float (with_destination dest ms) ≡ false
+sent : (dest : Dest) (ms : Members) → members_have_float ms ≡ false
+    → members_have_float (with_destination dest ms) ≡ false
 sent (Topic topic) ms h = put_whole (codes "topic") (string topic) ms refl h
 sent (Queue name) ms h = put_whole (codes "queue") (string name) ms refl h
 
@@ -111,25 +123,33 @@ delivered d =
 
 pub deliveries : (ds : List Delivery) → items_have_float (items_of (map delivery_data ds)) ≡ false
 deliveries [] = refl
-deliveries (d ∷ ds) = ap (λ (b : Bool). b || items_have_float (items_of (map delivery_data ds))) (delivered d) ∙ deliveries ds
+deliveries (d ∷ ds) =
+    ap (λ (b : Bool). b || items_have_float (items_of (map delivery_data ds))) (delivered d) ∙ deliveries ds
 
 pub flows : (fs : List BoundFlow) → items_have_float (items_of (map flow_data fs)) ≡ false
 flows [] = refl
 flows (f ∷ fs) = flows fs
 
-pub causes : (ks : List CauseCount) (ms : Members) → members_have_float ms ≡ false → members_have_float (fold with_cause ms ks) ≡ false
+pub causes : (ks : List CauseCount) (ms : Members) → members_have_float ms ≡ false
+    → members_have_float (fold with_cause ms ks) ≡ false
 causes [] ms h = h
 causes (k ∷ ks) ms h = causes ks (with_cause ms k) (put_whole _ (whole k.count) ms refl h)
 
-pub detailed : (details : Option CopyDetails) (ms : Members) → members_have_float ms ≡ false → members_have_float (with_details details ms) ≡ false
+pub detailed : (details : Option CopyDetails) (ms : Members) → members_have_float ms ≡ false
+    → members_have_float (with_details details ms) ≡ false
 detailed None ms h = h
 detailed (Some d) ms h = third (second (put_whole (codes "message") (whole d.message) ms refl h))
   where
-    second : members_have_float (put (codes "message") (whole d.message) ms) ≡ false → members_have_float (put (codes "endpoint") (whole d.endpoint) (put (codes "message") (whole d.message) ms)) ≡ false
+    second : members_have_float (put (codes "message") (whole d.message) ms) ≡ false
+        → members_have_float (put (codes "endpoint") (whole d.endpoint) (put (codes "message") (whole d.message) ms))
+        ≡ false
     second = put_whole (codes "endpoint") (whole d.endpoint) (put (codes "message") (whole d.message) ms) refl
 
-    third : members_have_float (put (codes "endpoint") (whole d.endpoint) (put (codes "message") (whole d.message) ms)) ≡ false → members_have_float (with_details (Some d) ms) ≡ false
-    third = put_whole (codes "attempts") (whole d.attempts) (put (codes "endpoint") (whole d.endpoint) (put (codes "message") (whole d.message) ms)) refl
+    third : members_have_float (put (codes "endpoint") (whole d.endpoint) (put (codes "message") (whole d.message) ms))
+        ≡ false → members_have_float (with_details (Some d) ms) ≡ false
+    third =
+        put_whole (codes "attempts") (whole d.attempts)
+        (put (codes "endpoint") (whole d.endpoint) (put (codes "message") (whole d.message) ms)) refl
 
 shown_value : (v : ShownValue) → has_float (shown_data v) ≡ false
 shown_value (Number n) = refl
@@ -137,9 +157,11 @@ shown_value (Text text) = refl
 shown_value (Permission p) = refl
 shown_value (Kind k) = refl
 
-shown_values : (vs : List ShownAs) (ms : Members) → members_have_float ms ≡ false → members_have_float (fold with_shown ms vs) ≡ false
+shown_values : (vs : List ShownAs) (ms : Members) → members_have_float ms ≡ false
+    → members_have_float (fold with_shown ms vs) ≡ false
 shown_values [] ms h = h
-shown_values (v ∷ vs) ms h = shown_values vs (with_shown ms v) (put_whole v.name (shown_data v.value) ms (shown_value v.value) h)
+shown_values (v ∷ vs) ms h =
+    shown_values vs (with_shown ms v) (put_whole v.name (shown_data v.value) ms (shown_value v.value) h)
 
 pub shown : (r : Refusal) → members_have_float (shown_members r) ≡ false
 shown r = shown_values (shown_of r) no_members refl

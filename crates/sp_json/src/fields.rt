@@ -1,7 +1,7 @@
 // The fields of a JSON object, and the values that they give.
 ghost use Rattle.std.specs.Prelude.{◌≡◌, option_map, IfOk};
 ghost use Rattle.serde_json.specs.View.{view};
-ghost use Rattle.sp_json.specs.Fields.{has_key, text_at, optional_text_at, choice_at, choice_or, name_from, name_at, optional_name_at, whole_at, ranged_at, ranged_or};
+ghost use Rattle.sp_json.specs.Fields.{has_key, text_at, optional_text_at, choice_at, choice_or, name_from, name_at, optional_name_at, flag_at, flag_or, whole_at, ranged_at, ranged_or, optional_ranged_at};
 
 use serde_json::Value;
 use sp_base::choice::{Choice, named};
@@ -90,6 +90,23 @@ pub fn optional_name_at(
     }
 }
 
+fn flag_at(value: &Value, key: &str) -> Option<bool>
+    ensures { result ≡ flag_at key.now (view value.now) }
+{
+    value.get(key).and_then(Value::as_bool)
+}
+
+/// The truth value in a field, or this one where the field is absent. None where the field is there
+/// and is neither `true` nor `false`.
+pub fn flag_or(value: &Value, key: &str, absent: bool) -> Option<bool>
+    ensures { result ≡ flag_or absent key.now (view value.now) }
+{
+    if !has_key(value, key) {
+        return Some(absent);
+    }
+    flag_at(value, key)
+}
+
 // The whole number in a field, which is an integer from 0 to 2^64 - 1.
 fn whole_at(value: &Value, key: &str) -> Option<u64>
     ensures { result ≡ whole_at key.now (view value.now) }
@@ -121,4 +138,18 @@ pub fn ranged_or<K, const LEAST: u64, const MOST: u64>(
         return Some(absent);
     }
     ranged_at(value, key)
+}
+
+/// The number in a field that may be absent. None where the field is there and is no whole number in
+/// the range.
+pub fn optional_ranged_at<K, const LEAST: u64, const MOST: u64>(
+    value: &Value,
+    key: &str,
+) -> Option<Option<Ranged<K, LEAST, MOST>>>
+    ensures { result ≡ optional_ranged_at LEAST MOST key.now (view value.now) }
+{
+    if !has_key(value, key) {
+        return Some(None);
+    }
+    ranged_at(value, key).map(Some)
 }

@@ -2,8 +2,9 @@
 use Rattle.sp_access.specs.Activity.{flows_of}
 use Rattle.sp_access.specs.Flows.{flow_of}
 use Rattle.sp_access.specs.Flow.{FlowView}
-use Rattle.sp_base.specs.declared.refusal.Refusal.TheVariants.{UnknownEndpoint, UnknownFlow}
-use Rattle.sp_copies.specs.History.{fate_of}
+use Rattle.sp_base.specs.declared.refusal.Refusal.TheVariants.{NotHeld, UnknownEndpoint, UnknownFlow}
+use Rattle.sp_copies.specs.History.{fate_of, held_copy}
+use Rattle.sp_copies.specs.declared.made.MadeCopy.{MadeCopy}
 use Rattle.sp_endpoint.specs.Endpoint.{EndpointView}
 use Rattle.sp_endpoint.specs.Endpoints.{named, numbered, queue_named}
 use Rattle.sp_event.specs.declared.answer.BoundFlow.{BoundFlow}
@@ -12,7 +13,6 @@ use Rattle.sp_event.specs.declared.answer.Reply.{Reply}
 use Rattle.sp_event.specs.declared.answer.Reply.TheVariants as replies
 use Rattle.sp_event.specs.declared.request.Event.{Event}
 use Rattle.sp_event.specs.declared.request.Event.TheVariants as events
-use Rattle.sp_event.specs.declared.request.Outcome as settling
 use Rattle.sp_event.specs.declared.request.Query.{Query}
 use Rattle.sp_event.specs.declared.request.Query.TheVariants as queries
 use Rattle.sp_ledger.proofs.Decided.{OnPassed, passed_on_found, passed_unless, passed_weaker, where_accepted}
@@ -28,7 +28,7 @@ use Rattle.sp_ledger.specs.OnFlows.{topic_check}
 use Rattle.sp_ledger.specs.Sound.{IsSound}
 use Rattle.sp_ledger.specs.Step.{accepted, begun, idle, on_found}
 use Rattle.sp_ledger.specs.Tally.{IsBalanced, TellsBalanced, tally_in, told_tally}
-use Rattle.sp_ledger.specs.Told.{TellsFates}
+use Rattle.sp_ledger.specs.Told.{ShowsFates}
 use Rattle.std.proofs.Common.{refl, subst}
 use Rattle.std.proofs.lemmas.List.Elements.{All-cons, All-nil}
 use Rattle.std.specs.Prelude.{All, List, None, Option, Some, [], map, ℕ, ◌<◌, ◌∷◌, ◌≡◌}
@@ -65,10 +65,10 @@ module _ (P : Reply → Type 0) (L : Ledger) (r : Reply) where
   each_answer tallies copies flows moment caller (queries.Flows name) e =
       flows_on name (named name L.endpoints) flows e
 
-pub answer_tells : (L : Ledger) (moment : ℕ) (caller : List ℕ) (q : Query) (r : Reply) →
-    answer moment caller q L ≡ gave r → TellsFates L.copies r
-answer_tells L moment caller q r e =
-    each_answer (TellsFates L.copies) L r (λ e. All-nil (λ (t : CopyFate). fate_of L.copies t.copy ≡ t.fate))
+pub answer_shows : (L : Ledger) (moment : ℕ) (caller : List ℕ) (q : Query) (r : Reply) →
+    answer moment caller q L ≡ gave r → ShowsFates L.copies r
+answer_shows L moment caller q r e =
+    each_answer (ShowsFates L.copies) L r (λ e. All-nil (λ (t : CopyFate). fate_of L.copies t.copy ≡ t.fate))
     (λ copy. All-cons (λ (t : CopyFate). fate_of L.copies t.copy ≡ t.fate) _ [] refl
     (All-nil (λ (t : CopyFate). fate_of L.copies t.copy ≡ t.fate)))
     (λ endpoint flows. All-nil (λ (t : CopyFate). fate_of L.copies t.copy ≡ t.fate)) moment caller q e
@@ -108,8 +108,13 @@ module _ (L : Ledger) where
       passed_on_found {X = FlowView} Silent (UnknownFlow flow) _ (flow_of L.flows caller flow)
       (λ f found.
       passed_on_found {X = EndpointView} Silent (UnknownFlow flow) _ (numbered f.endpoint L.endpoints) (λ e there p. refl))
-  silent caller (events.Settle flow copy settling.TheVariants.Accepted) =
-      passed_on_found {X = FlowView} Silent (UnknownFlow flow) _ (flow_of L.flows caller flow) (λ f found p. refl)
+  silent caller (events.Settle flow copy outcome) =
+      passed_on_found {X = FlowView} Silent (UnknownFlow flow) _ (flow_of L.flows caller flow)
+      (λ f found.
+      passed_on_found {X = MadeCopy} Silent (NotHeld copy) _ (held_copy L.copies flow copy) (λ c held p. refl))
+  silent caller events.Tick = λ p. refl
+  silent caller (events.DeleteCopies name copy) =
+      passed_on_found {X = EndpointView} Silent (UnknownEndpoint name) _ (named name L.endpoints) (λ e found p. refl)
 
 -- a reply without a tally
 no_tally : (reply : Reply) → told_tally reply ≡ None → TellsBalanced reply

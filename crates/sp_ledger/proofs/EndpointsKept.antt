@@ -6,12 +6,11 @@ use Rattle.sp_copies.specs.declared.closed.ClosedCopy.{ClosedCopy}
 use Rattle.sp_copies.specs.declared.made.MadeCopy.{MadeCopy}
 use Rattle.sp_endpoint.specs.Endpoint.{EndpointView}
 use Rattle.sp_endpoint.specs.Endpoints.{is_there, replaced, without_endpoint}
-use Rattle.sp_ledger.proofs.Listed.{All-both, and_left, any_kept, any_mapped, any_where, none_counted, pairs_map}
+use Rattle.sp_ledger.proofs.Listed.{list_any-map, All-both, and_left, any_kept, any_mapped, any_where, none_counted, pairs_map}
 use Rattle.sp_ledger.proofs.OneKept.{OpenThere, there-weaker}
 use Rattle.sp_ledger.specs.Allowed.{MayBecome, MayCome}
 use Rattle.sp_ledger.specs.Ledger.{Ledger}
 use Rattle.sp_ledger.specs.Sound.{AreFlows, AreEndpoints, IsEndpoint, has_endpoint, suits_flow}
-use Rattle.sp_topic.proofs.Searches.{list_any-map}
 use Rattle.std.proofs.Common.{ap, arith, length-append, refl, subst, sym, ◌∙◌}
 use Rattle.std.proofs.lemmas.Bool.{eqb-true}
 use Rattle.std.proofs.lemmas.List.{length-map}

@@ -82,7 +82,7 @@ change_extends (starts r) L = same_extends L (changed (starts r) L) refl refl
 change_extends (goes_on r) L = same_extends L (changed (goes_on r) L) refl refl
 change_extends (ends replay) L = same_extends L (changed (ends replay) L) refl refl
 
-changes_extend : (changes : List Change) (L : Ledger) → Extends L (all_changed changes L)
+pub changes_extend : (changes : List Change) (L : Ledger) → Extends L (all_changed changes L)
 changes_extend [] L = Extends-refl L
 changes_extend (c ∷ cs) L =
     Extends-trans L (changed c L) (all_changed cs (changed c L)) (change_extends c L) (changes_extend cs (changed c L))

@@ -1,8 +1,8 @@
 -- Copies of a partition are handed out in order.
 use Rattle.sp_access.specs.Flows.{flow_numbered, flow_of}
 use Rattle.sp_access.specs.Flow.{FlowView}
-use Rattle.sp_base.specs.declared.refusal.Refusal.TheVariants.{UnknownEndpoint, UnknownFlow}
-use Rattle.sp_copies.specs.History.{held_by}
+use Rattle.sp_base.specs.declared.refusal.Refusal.TheVariants.{NotHeld, UnknownEndpoint, UnknownFlow}
+use Rattle.sp_copies.specs.History.{held_by, held_copy}
 use Rattle.sp_copies.specs.declared.made.MadeCopy.{MadeCopy}
 use Rattle.sp_endpoint.specs.Endpoint.{EndpointView}
 use Rattle.sp_endpoint.specs.Endpoints.{named, numbered, queue_named}
@@ -10,7 +10,6 @@ use Rattle.sp_event.specs.declared.answer.Reply.{Reply}
 use Rattle.sp_event.specs.declared.answer.Reply.TheVariants as replies
 use Rattle.sp_event.specs.declared.request.Event.{Event}
 use Rattle.sp_event.specs.declared.request.Event.TheVariants as events
-use Rattle.sp_event.specs.declared.request.Outcome as settling
 use Rattle.sp_event.specs.declared.request.Query.{Query}
 use Rattle.sp_ledger.proofs.Telling.{single}
 use Rattle.sp_ledger.proofs.Answered.{each_answer}
@@ -130,8 +129,13 @@ module _ (L : Ledger) (s : IsSound L) where
   all_in_order caller (events.Unbind flow) =
       passed_on_found {X = FlowView} InOrder (UnknownFlow flow) _ (flow_of L.flows caller flow) (λ f found p. tt)
   all_in_order caller (events.Pull flow count) = pull_in_order caller flow count
-  all_in_order caller (events.Settle flow copy settling.TheVariants.Accepted) =
-      passed_on_found {X = FlowView} InOrder (UnknownFlow flow) _ (flow_of L.flows caller flow) (λ f found p. tt)
+  all_in_order caller (events.Settle flow copy outcome) =
+      passed_on_found {X = FlowView} InOrder (UnknownFlow flow) _ (flow_of L.flows caller flow)
+      (λ f found.
+      passed_on_found {X = MadeCopy} InOrder (NotHeld copy) _ (held_copy L.copies flow copy) (λ c held p. tt))
+  all_in_order caller events.Tick = λ p. tt
+  all_in_order caller (events.DeleteCopies name copy) =
+      passed_on_found {X = EndpointView} InOrder (UnknownEndpoint name) _ (named name L.endpoints) (λ e found p. tt)
 
 module _ (L : Ledger) (s : IsLedger L) (moment : ℕ) (caller : List ℕ) (event : Event) (told : List Reply) where
   pub accepted_in_order : (M : Ledger) → outcome moment caller event L ≡ accepted M told →

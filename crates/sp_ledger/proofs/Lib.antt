@@ -20,6 +20,7 @@ pub mod GivenBack
 pub mod HandedOut
 pub mod TurnsTaken
 pub mod OneKind
+pub mod Ended
 pub mod Steps
 -- What the other laws say.
 pub mod Fates

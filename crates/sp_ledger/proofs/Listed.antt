@@ -1,6 +1,5 @@
 -- Lists that are looked through, and grow or lose elements.
-use Rattle.sp_topic.proofs.Searches.{list_any-map}
-use Rattle.std.proofs.Common.{arith, refl, subst, suc, sym, zero, ◌∙◌}
+use Rattle.std.proofs.Common.{ap, arith, refl, subst, suc, sym, zero, ◌∙◌}
 use Rattle.std.proofs.lemmas.Bool.{eqb-true}
 use Rattle.std.proofs.lemmas.List.Elements.{All-cons, All-head, All-map, All-nil, All-tail, All-take, All-weaker}
 use Rattle.std.proofs.lemmas.List.Elements.{filter_passes}
@@ -74,6 +73,12 @@ any_kept {X} p q w (x ∷ xs) h = one (any_kept p q w xs) (q x) refl
         list_any p (cond b (x ∷ filter q xs) (filter q xs)) ≡ true
     one later true is = or_both (p x) (list_any p xs) (p x) (list_any p (filter q xs)) (λ k. k) later h
     one later false is = later (here (p x) refl (dropped is (p x) refl) h)
+
+-- a test of what a function makes of each element
+pub list_any-map : {X Y : Type 0} (p : Y → Bool) (f : X → Y) (xs : List X) →
+    list_any p (map f xs) ≡ list_any (λ x. p (f x)) xs
+list_any-map p f [] = refl
+list_any-map p f (x ∷ xs) = ap (λ more. p (f x) || more) (list_any-map p f xs)
 
 -- what is found stays found where each element becomes one that passes too
 pub any_mapped : {X : Type 0} (p : X → Bool) (f : X → X) → ((x : X) → p x ≡ true → p (f x) ≡ true) → (xs : List X) →

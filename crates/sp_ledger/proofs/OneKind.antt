@@ -1,18 +1,17 @@
 -- Lists of changes of one kind are allowed, one after another.
 use Rattle.sp_copies.proofs.Marks.{eqb-turned}
 use Rattle.sp_copies.specs.Counts.{is_moved}
-use Rattle.sp_copies.specs.History.{is_free, is_held, is_spooled, let_go, once_more, with_closed, with_held}
+use Rattle.sp_copies.specs.History.{is_free, is_spooled, once_more, with_closed, with_held}
 use Rattle.sp_copies.specs.declared.closed.Closing.{Closing}
 use Rattle.sp_copies.specs.declared.held.CopyAttempts.{CopyAttempts}
 use Rattle.sp_copies.specs.declared.held.HeldCopy.{HeldCopy}
 use Rattle.sp_copies.specs.declared.made.MadeCopy.{MadeCopy}
 use Rattle.sp_endpoint.specs.Endpoint.{EndpointView}
 use Rattle.sp_ledger.proofs.CopiesKept.{still_spooled_beside}
-use Rattle.sp_ledger.proofs.GivenBack.{all_freed, still_held_above}
 use Rattle.sp_ledger.proofs.HandedOut.{none_greater, still_free}
 use Rattle.sp_ledger.proofs.Listed.{All-both, or_left, or_right, pairs_head, pairs_tail}
 use Rattle.sp_ledger.specs.Allowed.{AreAllowed, HasTurn}
-use Rattle.sp_ledger.specs.Changes.{all_changed, changed, closes, frees, holds}
+use Rattle.sp_ledger.specs.Changes.{all_changed, changed, closes, holds}
 use Rattle.sp_ledger.specs.Ledger.{Ledger}
 use Rattle.sp_ledger.specs.One.{is_bound_for}
 use Rattle.sp_ledger.specs.Turns.{is_in_partition}
@@ -46,27 +45,6 @@ close_allowed how unmoved (c ∷ cs) K spooled apart = (
       (All-tail (λ (d : MadeCopy). is_spooled K.copies d.number ≡ true) c cs spooled)
       (pairs_head (λ (a b : MadeCopy). (a.number == b.number) ≡ false) c cs apart)))
       (pairs_tail (λ (a b : MadeCopy). (a.number == b.number) ≡ false) c cs apart),
-)
-
--- copies are freed, one after another, and nothing else changes
-pub frees_all : (cs : List ℕ) (K : Ledger) → all_changed (map frees cs) K ≡ record K { copies = all_freed cs K.copies }
-frees_all [] K = refl
-frees_all (c ∷ cs) K = frees_all cs (changed (frees c) K)
-
--- held copies of rising numbers are freed, one after another
-pub free_allowed : (cs : List ℕ) (K : Ledger) → All (λ c. is_held K.copies.held c ≡ true) cs →
-    AllPairs (λ c d. c < d) cs → AreAllowed (map frees cs) K
-free_allowed [] K held rise = tt
-free_allowed (c ∷ cs) K held rise = (
-  All-head (λ (x : ℕ). is_held K.copies.held x ≡ true) c cs held,
-  free_allowed cs (changed (frees c) K)
-      (All-weaker (λ (x : ℕ). (is_held K.copies.held x ≡ true) × (c < x))
-      (λ (x : ℕ). is_held (let_go c K.copies.held) x ≡ true)
-      (λ x h. still_held_above K.copies c x h.1 h.0) cs
-      (All-both (λ (x : ℕ). is_held K.copies.held x ≡ true) (λ (x : ℕ). c < x) cs
-      (All-tail (λ (x : ℕ). is_held K.copies.held x ≡ true) c cs held)
-      (pairs_head (λ (b e : ℕ). b < e) c cs rise)))
-      (pairs_tail (λ (b e : ℕ). b < e) c cs rise),
 )
 
 -- free copies of rising numbers are held, one after another

@@ -3,13 +3,14 @@ use Rattle.sp_access.specs.Flows.{flow_of}
 use Rattle.sp_access.specs.Flow.{FlowView}
 use Rattle.sp_base.specs.Refusal.{number_of}
 use Rattle.sp_base.specs.declared.refusal.Refusal.{Refusal}
-use Rattle.sp_base.specs.declared.refusal.Refusal.TheVariants.{UnknownEndpoint, UnknownFlow}
+use Rattle.sp_base.specs.declared.refusal.Refusal.TheVariants.{NotHeld, UnknownEndpoint, UnknownFlow}
+use Rattle.sp_copies.specs.History.{held_copy}
+use Rattle.sp_copies.specs.declared.made.MadeCopy.{MadeCopy}
 use Rattle.sp_endpoint.specs.Endpoint.{EndpointView}
 use Rattle.sp_endpoint.specs.Endpoints.{named, numbered, queue_named}
 use Rattle.sp_endpoint.specs.Takers.{takers}
 use Rattle.sp_event.specs.declared.request.Event.{Event}
 use Rattle.sp_event.specs.declared.request.Event.TheVariants as events
-use Rattle.sp_event.specs.declared.request.Outcome as settling
 use Rattle.sp_ledger.specs.Changes.{Change, publishes}
 use Rattle.sp_ledger.specs.Events.{outcome, step}
 use Rattle.sp_ledger.specs.Ledger.{Ledger}
@@ -57,7 +58,7 @@ module _ (L : Ledger) where
 
   -- what a publish changes
   abbrev published : Message → Ledger → List Change
-  published m B = publishes m (map (share_for m B.next.message) (takers B.endpoints m)) ∷ []
+  published m B = publishes m (map (share_for m B.next.message B.now) (takers B.endpoints m)) ∷ []
 
   pub step_rises : (caller : List ℕ) (event : Event) (B : Ledger) → Rise (step caller event B)
   step_rises caller (events.Provision name kind settings) B =
@@ -91,9 +92,12 @@ module _ (L : Ledger) where
   step_rises caller (events.Pull flow count) B =
       rise_found {X = FlowView} (UnknownFlow flow) _ (flow_of B.flows caller flow)
       (λ f. rise_found {X = EndpointView} (UnknownFlow flow) _ (numbered f.endpoint B.endpoints) (λ e. (omega arith, tt)))
-  step_rises caller (events.Settle flow copy settling.TheVariants.Accepted) B =
+  step_rises caller (events.Settle flow copy outcome) B =
       rise_found {X = FlowView} (UnknownFlow flow) _ (flow_of B.flows caller flow)
-      (λ f. (omega arith, (omega arith, tt)))
+      (λ f. rise_found {X = MadeCopy} (NotHeld copy) _ (held_copy B.copies flow copy) (λ c. (omega arith, tt)))
+  step_rises caller events.Tick B = (omega arith, tt)
+  step_rises caller (events.DeleteCopies name copy) B =
+      rise_found {X = EndpointView} (UnknownEndpoint name) _ (named name B.endpoints) (λ e. (omega arith, tt))
 
 -- along such checks each number is at least the one before all
 abbrev AtLeast : ℕ → Check → Type 0

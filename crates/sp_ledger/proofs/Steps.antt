@@ -1,19 +1,22 @@
 -- The changes of each step are allowed, one after another.
-use Rattle.sp_access.specs.Flows.{flow_count, flow_numbered, flow_of}
+use Rattle.sp_access.specs.Flows.{flow_count, flow_numbered, flow_of, is_bound}
 use Rattle.sp_access.specs.Flow.{FlowView}
 use Rattle.sp_base.specs.Name.{is_caller}
 use Rattle.sp_base.specs.declared.refusal.Kind.TheVariants as kinds
-use Rattle.sp_base.specs.declared.refusal.Refusal.TheVariants.{BadSubscription, BindLimit, InUse, UnknownEndpoint}
-use Rattle.sp_base.specs.declared.refusal.Refusal.TheVariants.{UnknownFlow}
+use Rattle.sp_base.specs.declared.refusal.Refusal.TheVariants.{BadSubscription, BindLimit, InUse, NotHeld}
+use Rattle.sp_base.specs.declared.refusal.Refusal.TheVariants.{UnknownEndpoint, UnknownFlow}
 use Rattle.sp_config.proofs.Settled.{defaults_in_range}
 use Rattle.sp_config.specs.Attributes.{defaults, quota_of}
 use Rattle.sp_config.specs.Settings.{with_settings}
 use Rattle.sp_config.specs.declared.kind.EndpointKind.{EndpointKind}
 use Rattle.sp_config.specs.declared.setting.Setting.{Setting}
 use Rattle.sp_copies.specs.Counts.{spooled_count}
-use Rattle.sp_copies.specs.History.{History, held_by, is_held_by, is_made, is_open_in, is_spooled, open_copies}
-use Rattle.sp_copies.specs.History.{used_bytes}
-use Rattle.sp_copies.specs.declared.closed.Cause.TheVariants.{TopicChanged}
+use Rattle.sp_copies.proofs.Chosen.{Apart, apart_take, due_among_made, due_apart, due_is_free, free_apart, held_among_made}
+use Rattle.sp_copies.proofs.Chosen.{held_apart, held_is_held}
+use Rattle.sp_copies.specs.Due.{due_copies}
+use Rattle.sp_copies.specs.History.{History, copy_of, free_copies, held_copies, held_copy, is_free, is_held, is_held_by, is_made}
+use Rattle.sp_copies.specs.History.{is_open_in, is_spooled, open_copies, used_bytes}
+use Rattle.sp_copies.specs.declared.closed.Cause.TheVariants.{Deleted, TopicChanged}
 use Rattle.sp_copies.specs.declared.closed.Closing.TheVariants as closings
 use Rattle.sp_copies.specs.declared.held.CopyAttempts.{CopyAttempts}
 use Rattle.sp_copies.specs.declared.held.HeldCopy.{HeldCopy}
@@ -25,47 +28,52 @@ use Rattle.sp_event.specs.declared.answer.Reply.{Reply}
 use Rattle.sp_event.specs.declared.answer.Reply.TheVariants as replies
 use Rattle.sp_event.specs.declared.request.Event.{Event}
 use Rattle.sp_event.specs.declared.request.Event.TheVariants as events
-use Rattle.sp_event.specs.declared.request.Outcome as settling
+use Rattle.sp_event.specs.declared.request.Outcome.{Outcome}
+use Rattle.sp_event.specs.declared.request.Outcome.TheVariants as outcomes
 use Rattle.sp_ledger.proofs.Chosen.{pairs_made}
 use Rattle.sp_ledger.proofs.CopiesKept.{kept_of}
 use Rattle.sp_ledger.proofs.Decided.{OnPassed, Passes, each_passes, passed_on_found, passed_unless, passed_weaker}
 use Rattle.sp_ledger.proofs.Decided.{parts_of, passes-append, where_accepted}
 use Rattle.sp_ledger.proofs.EachKind.{begun_sound, changes_sound, units_after}
+use Rattle.sp_ledger.proofs.Ended.{MayEnd, MayReturn, ending_allowed, endings_allowed, returning_allowed}
+use Rattle.sp_ledger.proofs.Ended.{returns_allowed, returns_flows, returns_let_go}
 use Rattle.sp_ledger.proofs.EndpointsKept.{has_endpoint_in_place}
 use Rattle.sp_ledger.proofs.Fields.{allowed_keep_ranges, endpoint_found, may_become, new_suits, quota_below}
 use Rattle.sp_ledger.proofs.Fields.{flow_suits, settings_suit, shares_no_other, shares_own, texts_suit, topic_suits}
-use Rattle.sp_ledger.proofs.GivenBack.{held_by_held, held_by_rises, none_held}
+use Rattle.sp_ledger.proofs.GivenBack.{none_held}
 use Rattle.sp_ledger.proofs.HandedOut.{in_endpoint, pulled_free, pulled_in, pulled_made, pulled_rise, pulled_taken}
-use Rattle.sp_ledger.proofs.Listed.{All-any, All-both, All-kept, and_both, and_left, and_right, any_found, any_self}
-use Rattle.sp_ledger.proofs.Listed.{find_passes, lesser_is_not, none_found, not_false}
+use Rattle.sp_ledger.proofs.Listed.{All-any, All-both, All-find, All-kept, and_both, and_left, and_right}
+use Rattle.sp_ledger.proofs.Listed.{any_found, any_self, any_weaker, find_passes, lesser_is_not, none_found, not_false}
 use Rattle.sp_ledger.proofs.OneByOne.{allowed_append}
-use Rattle.sp_ledger.proofs.OneKind.{close_allowed, closes_all, free_allowed, frees_all, hold_allowed}
+use Rattle.sp_ledger.proofs.OneKind.{close_allowed, closes_all, hold_allowed}
 use Rattle.sp_ledger.proofs.TurnsTaken.{found_by_key, own_key, turn_taken}
 use Rattle.sp_ledger.proofs.Taken.{takers_all, takers_apart}
-use Rattle.sp_ledger.specs.Allowed.{AreAllowed, HasTurn, IsShare, MayBecome, MayBind, changes_of}
-use Rattle.sp_ledger.specs.Changes.{Change, Share, all_changed, binds, becomes, closes, frees, holds, unbinds}
+use Rattle.sp_ledger.specs.Allowed.{AreAllowed, HasTurn, IsAllowed, IsShare, MayBecome, MayBind, changes_of}
+use Rattle.sp_ledger.specs.Changes.{Change, Share, all_changed, binds, becomes, closes, holds, unbinds}
 use Rattle.sp_ledger.specs.Events.{outcome, step}
 use Rattle.sp_ledger.specs.Ledger.{Ledger}
-use Rattle.sp_ledger.specs.Limits.{last_copy, most_endpoints, most_subscriptions, spent}
+use Rattle.sp_ledger.specs.Limits.{last_copy, most_ended, most_endpoints, most_subscriptions, spent}
+use Rattle.sp_ledger.specs.OnCopies.{delete_copies, deleted, deletions, is_named, tick}
 use Rattle.sp_ledger.specs.OnEndpoints.{change_step, deprovision, provision, shares_otherwise, subscribe, unsubscribe}
 use Rattle.sp_ledger.specs.OnFlows.{bind, can_take, deliveries, fits_kind, is_rebound, new_flow, outdated, pull}
-use Rattle.sp_ledger.specs.OnFlows.{pulled, rebinding, rebound, settle}
+use Rattle.sp_ledger.specs.OnFlows.{given_back, pulled, rebinding, rebound, settle, settling}
 use Rattle.sp_ledger.specs.OnFlows.{topic_check, unbind}
 use Rattle.sp_ledger.specs.One.{is_bound_for}
 use Rattle.sp_ledger.specs.Publish.{publish, quota_check, share_for}
 use Rattle.sp_ledger.specs.Sound.{IsEndpoint, IsLedger, IsSound, suits_flow}
 use Rattle.sp_ledger.specs.Step.{Step, accepted, begun, does, is_copy_spent, is_spent, on_found}
 use Rattle.sp_message.specs.Size.{size_of}
+use Rattle.sp_settle.specs.declared.questions.Reason.TheVariants as reasons
 use Rattle.sp_message.specs.declared.message.Message.{Message}
 use Rattle.std.proofs.Common.{append_assoc, arith, length-append, refl, subst, sym, ◌∙◌}
 use Rattle.std.proofs.lemmas.Bool.{eq-eqb, eqb-true, leb-false, ltb-false}
 use Rattle.std.proofs.lemmas.List.{length-map}
-use Rattle.std.proofs.lemmas.List.Elements.{All-filter, All-map, All-weaker}
+use Rattle.std.proofs.lemmas.List.Elements.{All-filter, All-map, All-take, All-weaker}
 use Rattle.std.proofs.lemmas.List.Kept.{AllPairs-filter}
 use Rattle.std.proofs.lemmas.List.Sums.{count_by-le-length, length-filter}
 use Rattle.std.specs.List.{list_any}
-use Rattle.std.specs.Prelude.{All, AllPairs, Bool, IsTrue, List, Option, Some, [], bytes_eq, cond, false, filter}
-use Rattle.std.specs.Prelude.{length, map, nat_le, not, true, ℕ, ◌&&◌, ◌++◌, ◌+◌, ◌<◌, ◌==◌, ◌∷◌, ◌≡◌, ◌≤◌}
+use Rattle.std.specs.Prelude.{All, AllPairs, Bool, IsTrue, List, None, Option, Some, [], bytes_eq, cond, false, filter}
+use Rattle.std.specs.Prelude.{length, map, nat_le, not, take, true, ℕ, ◌&&◌, ◌++◌, ◌+◌, ◌<◌, ◌==◌, ◌∷◌, ◌≡◌, ◌≤◌}
 
 abbrev Allowed : Ledger → List Change → Reply → Type 0
 Allowed L changes reply = AreAllowed changes L
@@ -170,15 +178,15 @@ module _ (L : Ledger) (s : IsSound L) where
       let parts : Passes (map (quota_check L size) into) × Passes numbers =
       passes-append (map (quota_check L size) into) numbers p.1 in
       let room = ltb-false (last_copy + 1) (L.copies.next + length into) parts.1.1.0 in
-      let many = length-map into (share_for m L.next.message) in (
+      let many = length-map into (share_for m L.next.message L.now) in (
         record {
           unspent = leb-false spent L.next.message parts.1.0;
           copies = omega (arith, room, many);
           each =
-              All-map (IsShare L m) (share_for m L.next.message) into
+              All-map (IsShare L m) (share_for m L.next.message L.now) into
               (All-weaker (λ (e : EndpointView). ((quota_check L size e).broken ≡ false)
               × (IsTrue (is_there L.endpoints e.number) × IsEndpoint e))
-              (λ (e : EndpointView). IsShare L m (share_for m L.next.message e))
+              (λ (e : EndpointView). IsShare L m (share_for m L.next.message L.now e))
               (λ e h. share_fits e h.0 h.1.0 h.1.1) into
               (All-both (λ (e : EndpointView). (quota_check L size e).broken ≡ false)
               (λ (e : EndpointView). IsTrue (is_there L.endpoints e.number) × IsEndpoint e) into
@@ -186,7 +194,7 @@ module _ (L : Ledger) (s : IsSound L) where
               (takers_all L m (λ (e : EndpointView). IsTrue (is_there L.endpoints e.number) × IsEndpoint e)
               all_there)));
           apart = pairs_made (λ (a b : Share). (a.copy.endpoint == b.copy.endpoint) ≡ false)
-              (share_for m L.next.message) into (takers_apart L m s.endpoints.rise);
+              (share_for m L.next.message L.now) into (takers_apart L m s.endpoints.rise);
         },
         tt,
       )
@@ -200,7 +208,7 @@ module _ (L : Ledger) (s : IsSound L) where
           (any_self {X = EndpointView} (λ d e. e.number == d.number) L.endpoints)) s.endpoints.each
 
       share_fits : (e : EndpointView) → (quota_check L (size_of m) e).broken ≡ false →
-          IsTrue (is_there L.endpoints e.number) → IsEndpoint e → IsShare L m (share_for m L.next.message e)
+          IsTrue (is_there L.endpoints e.number) → IsEndpoint e → IsShare L m (share_for m L.next.message L.now e)
       share_fits e fits there is = record {
         there = there;
         message = refl;
@@ -328,22 +336,58 @@ module _ (L : Ledger) (s : IsSound L) where
           ∷ [])
           (replies.Bind e.name L.next.flow (length (outdated L e (rebound e selector topic))))
 
+  -- a copy that was made is the one of its number, which was drawn
+  abbrev IsDrawn : MadeCopy → Type 0
+  IsDrawn c = OwnKey c × (c.number < L.copies.next)
+
+  all_drawn : All IsDrawn L.copies.made
+  all_drawn =
+      All-both OwnKey (λ (c : MadeCopy). c.number < L.copies.next) L.copies.made
+      (own_key {X = MadeCopy} (λ c. c.number) L.copies.made s.one.numbered.rise) s.one.numbered.below
+
+  -- a held copy is spooled
+  pub held_is_spooled : (flow copy : ℕ) → is_held_by L.copies.held flow copy ≡ true → is_spooled L.copies copy ≡ true
+  held_is_spooled flow copy h =
+      All-any (λ (x : HeldCopy). IsTrue (is_spooled L.copies x.copy)) (is_spooled L.copies copy ≡ true)
+      (λ x. (x.copy == copy) && (x.flow == flow)) L.copies.held s.one.held.spooled
+      (λ x is test. subst (λ k. is_spooled L.copies k ≡ true) (eqb-true _ _ (and_left (x.copy == copy) _ test)) is) h
+
+  -- and may be given back
+  may_return : (flow : ℕ) (c : MadeCopy) → IsDrawn c → is_held_by L.copies.held flow c.number ≡ true → MayReturn L c
+  may_return flow c drawn held = (
+    record { own = drawn.0; below = drawn.1; spooled = held_is_spooled flow c.number held },
+    any_weaker {X = HeldCopy} (λ h. (h.copy == c.number) && (h.flow == flow)) (λ h. h.copy == c.number)
+        (λ h k. and_left (h.copy == c.number) _ k) L.copies.held held,
+  )
+
+  pub held_all_may : (flow : ℕ) → All (MayReturn L) (held_copies L.copies flow)
+  held_all_may flow =
+      let mine : MadeCopy → Type 0 = λ c. is_held_by L.copies.held flow c.number ≡ true in
+      All-weaker (λ (c : MadeCopy). IsDrawn c × mine c) (MayReturn L)
+      (λ c h. may_return flow c h.0 h.1) (held_copies L.copies flow)
+      (All-both IsDrawn mine (held_copies L.copies flow) (held_among_made IsDrawn L.copies flow all_drawn)
+      (held_is_held L.copies flow))
+
+  pub given_back_allowed : (flow : ℕ) → AreAllowed (given_back L flow) L
+  given_back_allowed flow =
+      returns_allowed (held_copies L.copies flow) L s (held_all_may flow) (held_apart L.copies flow (kept_of L s).history)
+
   unbind_allowed : (caller : List ℕ) (flow : ℕ) → OnPassed (Allowed L) (unbind caller flow L)
   unbind_allowed caller flow =
       passed_on_found {X = FlowView} (Allowed L) (UnknownFlow flow) _ (flow_of L.flows caller flow)
       (λ f found p.
-      let held = held_by L.copies flow in
-      allowed_append (map frees held) (unbinds flow ∷ []) L
-      (free_allowed held L (held_by_held L.copies flow) (held_by_rises L.copies flow (kept_of L s).history))
-      (subst (AreAllowed (unbinds flow ∷ [])) (sym (frees_all held L)) (
+      let own : FlowView → Bool = λ g. (g.number == flow) && bytes_eq g.caller caller in
+      let cs = held_copies L.copies flow in
+      allowed_append (given_back L flow) (unbinds flow ∷ []) L (given_back_allowed flow) (
         (
-          any_found {X = FlowView} (λ g. (g.number == flow) && bytes_eq g.caller caller) (λ g. g.number == flow)
-              L.flows f found (and_left (f.number == flow) _
-              (find_passes {X = FlowView} (λ g. (g.number == flow) && bytes_eq g.caller caller) L.flows f found)),
-          none_held L.copies flow (kept_of L s).history,
+          subst (λ fs. is_bound fs flow ≡ true) (sym (returns_flows cs L))
+              (any_found {X = FlowView} own (λ g. g.number == flow) L.flows f found
+              (and_left (f.number == flow) _ (find_passes own L.flows f found))),
+          subst (λ held. All (λ (h : HeldCopy). (h.flow == flow) ≡ false) held) (sym (returns_let_go cs L))
+              (none_held L.copies flow (kept_of L s).history),
         ),
         tt,
-      )))
+      ))
 
   pull_allowed : (caller : List ℕ) (flow count : ℕ) → All (λ a. a.count + 1 < L.next.unit) L.copies.attempts →
       OnPassed (Allowed L) (pull caller flow count L)
@@ -394,18 +438,71 @@ module _ (L : Ledger) (s : IsSound L) where
           (pulled_made L e flow count OwnKey (own_key {X = MadeCopy} (λ c. c.number) L.copies.made s.one.numbered.rise))
           (pulled_taken L e flow count)))
 
-  -- a held copy is spooled
-  pub held_is_spooled : (flow copy : ℕ) → is_held_by L.copies.held flow copy ≡ true → is_spooled L.copies copy ≡ true
-  held_is_spooled flow copy h =
-      All-any (λ (x : HeldCopy). IsTrue (is_spooled L.copies x.copy)) (is_spooled L.copies copy ≡ true)
-      (λ x. (x.copy == copy) && (x.flow == flow)) L.copies.held s.one.held.spooled
-      (λ x is test. subst (λ k. is_spooled L.copies k ≡ true) (eqb-true _ _ (and_left (x.copy == copy) _ test)) is) h
+  -- the copy that a flow holds may be given back
+  pub held_may : (flow copy : ℕ) (c : MadeCopy) → held_copy L.copies flow copy ≡ Some c →
+      MayReturn L c × (c.number ≡ copy)
+  held_may flow copy c found = one (is_held_by L.copies.held flow copy) refl found
+    where
+      one : (b : Bool) → is_held_by L.copies.held flow copy ≡ b → cond b (copy_of L.copies.made copy) None ≡ Some c →
+          MayReturn L c × (c.number ≡ copy)
+      one false held k = absurd (cc)
+      one true held k =
+          let p : MadeCopy → Bool = λ x. x.number == copy in
+          let number : c.number ≡ copy = eqb-true _ _ (find_passes p L.copies.made c k) in (
+            may_return flow c (All-find IsDrawn p L.copies.made c all_drawn k)
+                (subst (λ n. is_held_by L.copies.held flow n ≡ true) (sym number) held),
+            number,
+          )
 
-  settle_allowed : (caller : List ℕ) (flow copy : ℕ) (outcome : settling.Outcome) →
+  settling_allowed : (outcome : Outcome) (c : MadeCopy) → MayReturn L c → IsAllowed (settling outcome c L) L
+  settling_allowed outcomes.Accepted c may = (may.0.spooled, refl)
+  settling_allowed outcomes.Failed c may = returning_allowed L s c may
+  settling_allowed outcomes.Rejected c may = ending_allowed L s c may.0 reasons.Rejected
+
+  settle_allowed : (caller : List ℕ) (flow copy : ℕ) (outcome : Outcome) →
       OnPassed (Allowed L) (settle caller flow copy outcome L)
-  settle_allowed caller flow copy settling.TheVariants.Accepted =
+  settle_allowed caller flow copy outcome =
       passed_on_found {X = FlowView} (Allowed L) (UnknownFlow flow) _ (flow_of L.flows caller flow)
-      (λ f found p. ((held_is_spooled flow copy (not_false _ p.0), refl), tt))
+      (λ f found.
+      passed_on_found {X = MadeCopy} (Allowed L) (NotHeld copy) _ (held_copy L.copies flow copy)
+      (λ c held p. (settling_allowed outcome c (held_may flow copy c held).0, tt)))
+
+  -- the first copies that are due may end
+  pub due_may : All (MayEnd L) (take most_ended (due_copies L.copies L.now))
+  due_may =
+      let due = due_copies L.copies L.now in
+      let unheld : MadeCopy → Type 0 = λ c. is_free L.copies c.number ≡ true in
+      All-take (MayEnd L) most_ended due
+      (All-weaker (λ (c : MadeCopy). IsDrawn c × unheld c) (MayEnd L)
+      (λ c h. record {
+        own = h.0.0;
+        below = h.0.1;
+        spooled = and_left (is_spooled L.copies c.number) _ h.1;
+      }) due (All-both IsDrawn unheld due (due_among_made IsDrawn L.copies L.now all_drawn) (due_is_free L.copies L.now)))
+
+  pub due_differ : AllPairs Apart (take most_ended (due_copies L.copies L.now))
+  due_differ = apart_take most_ended (due_copies L.copies L.now) (due_apart L.copies L.now (kept_of L s).history)
+
+  pub tick_allowed : OnPassed (Allowed L) (tick L)
+  tick_allowed p =
+      endings_allowed reasons.Expired (take most_ended (due_copies L.copies L.now)) L s due_may due_differ
+
+  pub deletions_allowed : (e : EndpointView) (copy : Option ℕ) → AreAllowed (deletions L e copy) L
+  deletions_allowed e copy =
+      let open_there : MadeCopy → Type 0 = λ c. is_spooled L.copies c.number ≡ true in
+      let unheld : MadeCopy → Bool = λ c. not (is_held L.copies.held c.number) in
+      let free = free_copies L.copies e.number in
+      close_allowed (closings.Discarded Deleted) refl (deleted L e copy) L
+      (All-take open_there most_ended (filter (is_named copy) free)
+      (All-filter (is_named copy) open_there free
+      (All-filter unheld open_there (open_copies L.copies e.number) (open_spooled e.number))))
+      (apart_take most_ended (filter (is_named copy) free)
+      (AllPairs-filter Apart (is_named copy) free (free_apart L.copies e.number (kept_of L s).history)))
+
+  delete_allowed : (name : List ℕ) (copy : Option ℕ) → OnPassed (Allowed L) (delete_copies name copy L)
+  delete_allowed name copy =
+      passed_on_found {X = EndpointView} (Allowed L) (UnknownEndpoint name) _ (named name L.endpoints)
+      (λ e found p. deletions_allowed e copy)
 
   pub step_allowed : (caller : List ℕ) → is_caller caller ≡ true →
       All (λ a. a.count + 1 < L.next.unit) L.copies.attempts → (event : Event) →
@@ -420,6 +517,8 @@ module _ (L : Ledger) (s : IsSound L) where
   step_allowed caller short few (events.Unbind flow) = unbind_allowed caller flow
   step_allowed caller short few (events.Pull flow count) = pull_allowed caller flow count few
   step_allowed caller short few (events.Settle flow copy outcome) = settle_allowed caller flow copy outcome
+  step_allowed caller short few events.Tick = tick_allowed
+  step_allowed caller short few (events.DeleteCopies name copy) = delete_allowed name copy
 
 -- what an accepted event leaves is sound
 pub outcome_sound : (L : Ledger) → IsLedger L → (moment : ℕ) (caller : List ℕ) → is_caller caller ≡ true →

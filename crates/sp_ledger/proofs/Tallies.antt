@@ -17,7 +17,7 @@ use Rattle.sp_ledger.proofs.Listed.{lesser_is_not, pairs_head, pairs_tail}
 use Rattle.sp_ledger.specs.Ledger.{Ledger}
 use Rattle.sp_ledger.specs.Sound.{IsSound}
 use Rattle.sp_ledger.specs.Tally.{IsBalanced, closing_count, is_made_in, tally_in}
-use Rattle.sp_ledger.specs.Told.{FateHolds}
+use Rattle.sp_ledger.specs.Told.{FateHolds, fate_in}
 use Rattle.std.proofs.Common.{ap, arith, get_or, refl, subst, sym, ◌∙◌}
 use Rattle.std.proofs.lemmas.Bool.{eq-eqb, eqb-true, ltb-false}
 use Rattle.std.proofs.lemmas.List.Elements.{All-weaker}
@@ -315,4 +315,12 @@ fate_holds H copy = one (is_made H.made copy) refl
     one : (b : Bool) → is_made H.made copy ≡ b →
         FateHolds H copy (cond b (told_closing (closed_after H.closed copy) (closing_of H.closed copy)) fates.Never)
     one true is = told_holds H copy (closed_after H.closed copy) is (closing_of H.closed copy) refl
+    one false is = tt
+
+pub fate_in_holds : (H : History) (copy : ℕ) → FateHolds H copy (fate_in H copy)
+fate_in_holds H copy = one (is_made H.made copy) refl
+  where
+    one : (b : Bool) → is_made H.made copy ≡ b →
+        FateHolds H copy (cond b (told_closing 0 (closing_of H.closed copy)) fates.Never)
+    one true is = told_holds H copy 0 is (closing_of H.closed copy) refl
     one false is = tt

@@ -1,8 +1,9 @@
 -- What each event comes to.
 use Rattle.sp_event.specs.declared.request.Event.{Event}
 use Rattle.sp_event.specs.declared.request.Event.TheVariants.{Provision, Deprovision, Change, Subscribe, Unsubscribe}
-use Rattle.sp_event.specs.declared.request.Event.TheVariants.{Publish, Bind, Unbind, Pull, Settle}
+use Rattle.sp_event.specs.declared.request.Event.TheVariants.{Publish, Bind, Unbind, Pull, Settle, Tick, DeleteCopies}
 use Rattle.sp_ledger.specs.Ledger.{Ledger}
+use Rattle.sp_ledger.specs.OnCopies.{delete_copies, tick}
 use Rattle.sp_ledger.specs.OnEndpoints.{change_step, deprovision, provision, subscribe, unsubscribe}
 use Rattle.sp_ledger.specs.OnFlows.{bind, pull, settle, unbind}
 use Rattle.sp_ledger.specs.Publish.{publish}
@@ -21,6 +22,8 @@ step caller (Bind name selector topic) L = bind caller name selector topic L
 step caller (Unbind flow) L = unbind caller flow L
 step caller (Pull flow count) L = pull caller flow count L
 step caller (Settle flow copy outcome) L = settle caller flow copy outcome L
+step caller Tick L = tick L
+step caller (DeleteCopies name copy) L = delete_copies name copy L
 
 -- what it comes to at a moment
 abbrev pub outcome : ℕ → List ℕ → Event → Ledger → Outcome

@@ -5,7 +5,9 @@ pub mod Changes
 pub mod Step
 pub mod OnEndpoints
 pub mod Publish
+pub mod Endings
 pub mod OnFlows
+pub mod OnCopies
 pub mod Events
 pub mod Tally
 pub mod Answer
@@ -17,5 +19,6 @@ pub mod Rising
 pub mod Told
 pub mod Turns
 pub mod Order
--- What only the proofs need: where each kind of change may be made.
+-- What only the proofs need: where each kind of change may be made, and which copies may end.
 pub mod Allowed
+pub mod MayEnd

@@ -9,6 +9,10 @@ most_endpoints = 1000
 abbrev pub most_subscriptions : ℕ
 most_subscriptions = 100
 
+-- how many copies a tick or a delete ends at most
+abbrev pub most_ended : ℕ
+most_ended = 1024
+
 -- the first number of a kind that isn't drawn any more
 abbrev pub spent : ℕ
 spent = 2 ^ 62

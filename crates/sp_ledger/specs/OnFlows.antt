@@ -9,22 +9,23 @@ use Rattle.sp_config.specs.Attributes.{AttributesView}
 use Rattle.sp_config.specs.declared.kind.EndpointKind.{EndpointKind}
 use Rattle.sp_config.specs.declared.kind.EndpointKind.TheVariants.{Queue, TopicEndpoint}
 use Rattle.sp_copies.specs.Counts.{spooled_count}
-use Rattle.sp_copies.specs.History.{attempts_of, held_by, holder_in, is_held_by, open_copies}
+use Rattle.sp_copies.specs.History.{attempts_of, held_by, held_copies, held_copy, holder_in, open_copies}
 use Rattle.sp_copies.specs.History.{waiting_copies}
 use Rattle.sp_copies.specs.declared.closed.Cause.TheVariants.{TopicChanged}
 use Rattle.sp_copies.specs.declared.closed.Closing.TheVariants as closings
 use Rattle.sp_copies.specs.declared.closed.Closing.TheVariants.{Discarded}
-use Rattle.sp_copies.specs.declared.closed.Fate.TheVariants as fates
 use Rattle.sp_copies.specs.declared.made.MadeCopy.{MadeCopy}
 use Rattle.sp_endpoint.specs.Endpoint.{EndpointView}
 use Rattle.sp_endpoint.specs.Endpoints.{named, numbered}
 use Rattle.sp_event.specs.declared.answer.Delivery.{Delivery}
 use Rattle.sp_event.specs.declared.answer.Reply.TheVariants as replies
-use Rattle.sp_event.specs.declared.request.Outcome as settling
-use Rattle.sp_event.specs.declared.request.Outcome.TheVariants.{Accepted}
-use Rattle.sp_ledger.specs.Changes.{Change, becomes, binds, closes, frees, holds, unbinds}
+use Rattle.sp_event.specs.declared.request.Outcome.{Outcome}
+use Rattle.sp_event.specs.declared.request.Outcome.TheVariants.{Accepted, Failed, Rejected}
+use Rattle.sp_ledger.specs.Changes.{Change, becomes, binds, closes, holds, unbinds}
+use Rattle.sp_ledger.specs.Endings.{all_told, ending, fate_by, one_by_one, returning}
 use Rattle.sp_ledger.specs.Ledger.{Ledger, Published, message_of}
 use Rattle.sp_ledger.specs.Step.{Check, Step, does, is_spent, on_found, rule, unless}
+use Rattle.sp_settle.specs.declared.questions.Reason.TheVariants as reasons
 use Rattle.sp_topic.specs.Subscription.{is_exception}
 use Rattle.std.specs.Prelude.{Bool, List, None, Option, Some, [], bytes_eq, false, filter, filter_map, if◌then◌else◌, is_none}
 use Rattle.std.specs.Prelude.{is_some, length, map, min, nat_le, not, option_map, take, true, unwrap_or, ℕ, ◌&&◌, ◌++◌, ◌+◌}
@@ -100,13 +101,18 @@ bind caller name selector topic L =
     (rebind_changes L e bound ++ binds (new_flow L.next.flow caller e selector) ∷ [])
     (replies.Bind e.name L.next.flow (length (outdated L e bound)))))
 
--- what a flow of the caller holds is spooled again, in order of number, and the flow goes
+-- what a flow holds is given back, in order of number
+abbrev pub given_back : Ledger → ℕ → List Change
+given_back L flow = one_by_one returning (held_copies L.copies flow) L
+
+-- a flow of the caller gives back what it holds, and goes
 abbrev pub unbind : List ℕ → ℕ → Ledger → Step
 unbind caller flow L =
     on_found (flow_of L.flows caller flow) (UnknownFlow flow) (λ f.
+    let closed = all_told (given_back L flow) L in
     does []
-    (map frees (held_by L.copies flow) ++ unbinds flow ∷ [])
-    (replies.Unbind flow [] (length (held_by L.copies flow))))
+    (given_back L flow ++ unbinds flow ∷ [])
+    (replies.Unbind flow closed (length (held_copies L.copies flow) - length closed)))
 
 -- whether a flow may take a copy of an endpoint with these attributes, by the copy's message and its partition's holder
 abbrev pub is_taken : List FlowView → ℕ → AttributesView → ℕ → Option ℕ → Option Published → Bool
@@ -154,10 +160,15 @@ pull caller flow count L =
     (map (λ c. holds c.number flow) (pulled L e flow count))
     (replies.Pull flow (deliveries L (pulled L e flow count)))))
 
--- a flow of the caller settles a copy that it holds: an accepted one is closed for good
-abbrev pub settle : List ℕ → ℕ → ℕ → settling.Outcome → Ledger → Step
-settle caller flow copy Accepted L =
+-- what an outcome does to a held copy: it is closed for good, given back, or ends
+abbrev pub settling : Outcome → MadeCopy → Ledger → Change
+settling Accepted c L = closes c.number closings.Accepted
+settling Failed c L = returning c L
+settling Rejected c L = ending reasons.Rejected c L
+
+-- a flow of the caller settles a copy that it holds
+abbrev pub settle : List ℕ → ℕ → ℕ → Outcome → Ledger → Step
+settle caller flow copy outcome L =
     on_found (flow_of L.flows caller flow) (UnknownFlow flow) (λ f.
-    does (rule (not (is_held_by L.copies.held flow copy)) (NotHeld copy) ∷ [])
-    (closes copy closings.Accepted ∷ [])
-    (replies.Settle copy fates.Accepted))
+    on_found (held_copy L.copies flow copy) (NotHeld copy) (λ c.
+    does [] (settling outcome c L ∷ []) (replies.Settle copy (fate_by (settling outcome c L) L))))

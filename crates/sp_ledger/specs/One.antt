@@ -1,4 +1,5 @@
 -- Every copy has one fate, and every move is recorded at both its ends.
+pub use Rattle.sp_settle.specs.Questions.{is_by_move}
 use Rattle.sp_access.specs.Flow.{FlowView}
 use Rattle.sp_copies.specs.Counts.{is_moved}
 use Rattle.sp_copies.specs.History.{History, closing_of, closings_of, is_closed, is_made, is_spooled}
@@ -20,12 +21,6 @@ abbrev pub is_bound_for : List FlowView → List MadeCopy → HeldCopy → Bool
 is_bound_for flows made h =
     list_any (λ f. (f.number == h.flow) && list_any (λ c. (c.number == h.copy) && (c.endpoint == f.endpoint)) made)
     flows
-
--- whether a copy was made by the move of another
-abbrev pub is_by_move : Origin → Bool
-is_by_move origins.Published = false
-is_by_move (origins.Moved from) = true
-is_by_move (origins.Replayed replay) = false
 
 -- whether it was made by the move of this copy
 abbrev pub is_move_of : ℕ → Origin → Bool

@@ -2,6 +2,7 @@
 use Rattle.sp_base.specs.declared.refusal.Kind.TheVariants as kinds
 use Rattle.sp_base.specs.declared.refusal.Refusal.TheVariants.{QuotaExceeded, UnknownEndpoint}
 use Rattle.sp_config.specs.Attributes.{AttributesView, is_partitioned, quota_of}
+use Rattle.sp_config.specs.Deadline.{deadline_of}
 use Rattle.sp_copies.specs.History.{used_bytes}
 use Rattle.sp_copies.specs.declared.closed.Fate.TheVariants as fates
 use Rattle.sp_copies.specs.declared.made.Origin.TheVariants.{Published}
@@ -18,7 +19,7 @@ use Rattle.sp_message.specs.Size.{dest_bytes, size_of}
 use Rattle.sp_message.specs.declared.message.Dest.{Dest}
 use Rattle.sp_message.specs.declared.message.Dest.TheVariants.{Topic, Queue}
 use Rattle.sp_message.specs.declared.message.Message.{Message}
-use Rattle.std.specs.Prelude.{Bool, List, None, [], false, if◌then◌else◌, is_none, length, map, nat_lt, true, ℕ, ◌++◌, ◌+◌, ◌∷◌}
+use Rattle.std.specs.Prelude.{Bool, List, [], false, if◌then◌else◌, is_none, length, map, nat_lt, true, ℕ, ◌++◌, ◌+◌, ◌∷◌}
 
 -- a message is sent to a queue that isn't there; a topic that no endpoint takes is no fault
 abbrev pub lacks_queue : Dest → List EndpointView → Bool
@@ -35,15 +36,15 @@ quota_check L size e =
 abbrev pub partition_for : Message → ℕ → AttributesView → ℕ
 partition_for m number a = if is_partitioned a then partition_of m number a.partition_count else 0
 
--- the copy of a message of this number for an endpoint, which is spooled
-abbrev pub share_for : Message → ℕ → EndpointView → Share
-share_for m number e = record {
+-- the copy of a message of this number for an endpoint, which is spooled at this moment
+abbrev pub share_for : Message → ℕ → ℕ → EndpointView → Share
+share_for m number moment e = record {
   copy = record {
     endpoint = e.number;
     message = number;
     size = size_of m;
     origin = Published;
-    deadline = None;
+    deadline = deadline_of e.attributes m.ttl moment;
     partition = partition_for m number e.attributes;
   };
   is_spooled = true;
@@ -65,5 +66,5 @@ publish m L =
     ++ is_spent L.next.message kinds.Message
     ∷ is_copy_spent (L.copies.next + length into)
     ∷ [])
-    (publishes m (map (share_for m L.next.message) into) ∷ [])
+    (publishes m (map (share_for m L.next.message L.now) into) ∷ [])
     (replies.Publish L.next.message (told_copies L.copies.next into))

@@ -24,7 +24,7 @@ ghost use Rattle.sp_ledger.specs.Rising.{NeverFall, checks_of};
 ghost use Rattle.sp_ledger.specs.Sound.{AreNext, IsLedger, IsSound, IsWhole};
 ghost use Rattle.sp_ledger.specs.Step.{accepted, begun, idle, refused};
 ghost use Rattle.sp_ledger.specs.Tally.{IsBalanced, IsSmall, TellsBalanced, tally_in};
-ghost use Rattle.sp_ledger.specs.Told.{Extends, IsLater, IsTold, TellsFates};
+ghost use Rattle.sp_ledger.specs.Told.{Extends, IsLater, IsTold, ShowsFates, TellsFates};
 ghost use Rattle.sp_message.specs.declared.message.Message.{Message};
 
 /// The empty ledger has what a ledger has between two units, where its next numbers may be drawn.
@@ -96,20 +96,22 @@ pub fn each_copy_has_one_fate()
     ensures { (L : Ledger) → IsSound L → (copy : ℕ) → is_made L.copies.made copy ≡ true → HasOneFate L.copies copy }
 {}
 
-/// The fates that an event's reply or a query's answer tells are those that the copies have then,
-/// in the ledger after the event, or where nothing changed.
+/// The fates that an event's reply tells are those that the copies have then, in the ledger after
+/// the event, or where nothing changed. A query's answer shows them as long as their closings are
+/// told.
 pub fn each_fate_that_is_told_is_so()
     ensures accepted { (L : Ledger) → IsSound L → (moment : ℕ) (caller : List ℕ) (event : Event) (told : List Reply)
         (M : Ledger) → outcome moment caller event L ≡ accepted M told → All (TellsFates M.copies) told }
     ensures idle { (L : Ledger) → IsSound L → (moment : ℕ) (caller : List ℕ) (event : Event) (told : List Reply) →
         outcome moment caller event L ≡ idle told → All (TellsFates L.copies) told }
     ensures answered { (L : Ledger) (moment : ℕ) (caller : List ℕ) (query : Query) (reply : Reply) →
-        answer moment caller query L ≡ gave reply → TellsFates L.copies reply }
+        answer moment caller query L ≡ gave reply → ShowsFates L.copies reply }
 {}
 
 /// A fate that was told stays, unless it was spooled, and a copy that was told stays made.
 pub fn what_was_told_stays()
     ensures told { (H : History) (reply : Reply) → TellsFates H reply → IsTold H reply }
+    ensures shown { (H : History) (reply : Reply) → ShowsFates H reply → IsTold H reply }
     ensures stays { (L M : Ledger) → Extends L M → (reply : Reply) → IsTold L.copies reply → IsTold M.copies reply }
 {}
 

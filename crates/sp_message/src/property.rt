@@ -131,7 +131,8 @@ fn all_keep_theirs(rows: &[Property]) -> bool
     rows.iter().all(|p| is_property(p))
 }
 
-fn is_property(property: &Property) -> bool
+/// Whether the name and the value keep their rules.
+pub(crate) fn is_property(property: &Property) -> bool
     ensures { result ≡ is_property property.now }
 {
     if property.name.len() == 0 || property.name.len() > LONGEST_PROPERTY_NAME {

@@ -1,3 +1,4 @@
+use crate::codec::ReadError;
 use crate::message::{Dest, LONGEST_TTL, Message, TimeToLive};
 use crate::partition::partition;
 use crate::payload::Payload;
@@ -194,4 +195,81 @@ fn a_message_without_a_group_goes_by_its_number(rt: HostRuntime) -> Result<(), F
         assert_eq!(rt; partition(&whole, MessageNo::of(number), 4), place);
     }
     Ok(())
+}
+
+// Nothing on the topic t, for 1,000 milliseconds, eligible, with the properties a -1, b 10.5, c `eu` and
+// d true.
+const BYTES: &[u8] =
+    b"\0\x01\0\0\0t\0\0\0\0\xe8\x03\0\0\0\0\0\0\x01\x04\x01\0\0\0a\0\xff\xff\xff\xff\xff\xff\xff\xff\x01\0\0\0b\x01\xa0\x37\xa0\0\0\0\0\0\0\0\0\0\0\0\0\0\x01\0\0\0c\x02\x02\0\0\0eu\x01\0\0\0d\x03\x01";
+
+#[test]
+fn a_message_is_read_and_written_in_its_bytes(rt: HostRuntime) -> Result<(), Fail> {
+    let alloc = rt.alloc();
+    let (message, len) = Message::read(alloc, BYTES)?;
+    assert_eq!(rt; len, BYTES.len());
+    assert_eq!(rt; message.ttl.value(), 1000);
+    assert!(rt; message.eligible);
+    assert!(rt; matches!(message.properties.find(b"a"), Some(Value::Whole(-1))));
+    assert!(rt; matches!(message.properties.find(b"d"), Some(Value::Bool(true))));
+    let mut written = Vec::new(alloc);
+    assert!(rt; message.write(&mut written).is_ok());
+    assert_eq!(rt; written.as_slice(), BYTES);
+    Ok(())
+}
+
+#[test]
+fn what_follows_a_message_is_not_read(rt: HostRuntime) -> Result<(), Fail> {
+    let alloc = rt.alloc();
+    let (_, len) = Message::read(
+        alloc,
+        b"\x01\x02\0\0\0q1\x05\0\0\0hello\0\0\0\0\0\0\0\0\0\0\x01\x02",
+    )?;
+    assert_eq!(rt; len, 26);
+    for end in 0..BYTES.len() {
+        assert!(rt;
+            matches!(Message::read(alloc, &BYTES[..end]), Err(ReadError::NotOne)),
+            "{end}"
+        );
+    }
+    Ok(())
+}
+
+// Each breaks one rule.
+const NO_MESSAGES: [(&str, &[u8]); 7] = [
+    (
+        "a destination of the kind 2",
+        b"\x02\x01\0\0\0t\0\0\0\0\0\0\0\0\0\0\0\0\0\0",
+    ),
+    ("the empty topic", b"\0\0\0\0\0\0\0\0\0\0\0\0\0\0\0\0\0\0\0"),
+    (
+        "a name with a space",
+        b"\x01\x01\0\0\0 \0\0\0\0\0\0\0\0\0\0\0\0\0\0",
+    ),
+    (
+        "a time to live past the longest",
+        b"\x01\x01\0\0\0q\0\0\0\0\x19\xfc\xff\xff\xe7\x03\0\0\0\0",
+    ),
+    (
+        "a truth value of 2",
+        b"\x01\x01\0\0\0q\0\0\0\0\0\0\0\0\0\0\0\0\x02\0",
+    ),
+    (
+        "properties that fall",
+        b"\x01\x01\0\0\0q\0\0\0\0\0\0\0\0\0\0\0\0\0\x02\x01\0\0\0b\x03\0\x01\0\0\0a\x03\0",
+    ),
+    (
+        "the least whole number",
+        b"\x01\x01\0\0\0q\0\0\0\0\0\0\0\0\0\0\0\0\0\x01\x01\0\0\0a\0\0\0\0\0\0\0\0\x80",
+    ),
+];
+
+#[test]
+fn what_breaks_a_rule_is_no_message(rt: HostRuntime) {
+    let alloc = rt.alloc();
+    for (why, bytes) in NO_MESSAGES {
+        assert!(rt;
+            matches!(Message::read(alloc, bytes), Err(ReadError::NotOne)),
+            "{why}"
+        );
+    }
 }

@@ -1,3 +1,4 @@
+pub mod Delivered
 pub mod EachChange
 pub mod FlowsTold
 pub mod Needed

@@ -4,7 +4,7 @@ use Rattle.sp_event.specs.declared.answer.Reply.{Reply}
 use Rattle.sp_ledger.specs.Changes as ledger
 use Rattle.sp_plan.specs.declared.change.Change.{Change}
 use Rattle.sp_plan.specs.declared.change.Change.TheVariants.{Comes, Goes, Becomes, Publishes, Closes}
-use Rattle.sp_plan.specs.declared.change.Change.TheVariants.{Holds, Frees, Binds, Unbinds}
+use Rattle.sp_plan.specs.declared.change.Change.TheVariants.{Moves, Holds, Frees, Binds, Unbinds}
 use Rattle.sp_plan.specs.declared.need.Need.{Need}
 
 -- the ledger's change that it is
@@ -14,6 +14,7 @@ change_of (Goes endpoint) = ledger.goes endpoint
 change_of (Becomes endpoint) = ledger.becomes endpoint
 change_of (Publishes message shares) = ledger.publishes message shares
 change_of (Closes copy how) = ledger.closes copy how
+change_of (Moves copy new) = ledger.moves copy new
 change_of (Holds copy flow) = ledger.holds copy flow
 change_of (Frees copy) = ledger.frees copy
 change_of (Binds flow) = ledger.binds flow
@@ -36,6 +37,7 @@ no_need = record { endpoints = 0; messages = 0; copies = 0; flows = 0 }
 abbrev pub need_of : ledger.Change → Need
 need_of (ledger.comes endpoint) = record { endpoints = 1; messages = 0; copies = 0; flows = 0 }
 need_of (ledger.publishes message shares) = record { endpoints = 0; messages = 1; copies = length shares; flows = 0 }
+need_of (ledger.moves copy new) = record { endpoints = 0; messages = 0; copies = 1; flows = 0 }
 need_of (ledger.binds flow) = record { endpoints = 0; messages = 0; copies = 0; flows = 1 }
 need_of change = no_need
 

@@ -2,7 +2,7 @@ use sp_access::flow::Flow;
 use sp_base::items::Items;
 use sp_base::number::{CopyNo, EndpointNo, FlowNo};
 use sp_copies::closed::Closing;
-use sp_copies::made::Share;
+use sp_copies::made::{NewCopy, Share};
 use sp_endpoint::endpoint::Endpoint;
 use sp_message::message::Message;
 
@@ -24,6 +24,11 @@ pub enum Change {
     Closes {
         copy: CopyNo,
         how: Closing,
+    },
+    /// A spooled copy closes, and a copy of its message is made elsewhere under the next number.
+    Moves {
+        copy: CopyNo,
+        new: NewCopy,
     },
     /// A free copy is held by a flow.
     Holds {

@@ -1,9 +1,8 @@
-//! The changes of the events on flows: copies are discarded, given back or handed out, and a flow
-//! is bound or goes.
+//! The changes of a bind and a pull: copies are discarded or handed out, and a flow is bound.
 ghost use Rattle.sp_base.specs.Name.{is_caller};
 ghost use Rattle.sp_copies.specs.declared.closed.Cause.TheVariants.{TopicChanged};
 ghost use Rattle.sp_copies.specs.declared.closed.Closing.TheVariants.{Discarded};
-ghost use Rattle.sp_ledger.specs.Changes.{binds, closes, frees, unbinds};
+ghost use Rattle.sp_ledger.specs.Changes.{binds, closes};
 ghost use Rattle.sp_ledger.specs.OnFlows.{new_flow, rebinding};
 ghost use Rattle.sp_plan.specs.Plan.{changes_of};
 ghost use Rattle.std.specs.Prelude.{◌≡◌, ◌++◌, ◌∷◌, [], IfOk, OnOk, map, true};
@@ -12,7 +11,7 @@ use crate::change::Change;
 use crate::topics::{flow_selector, is_rebound};
 use sp_access::flow::Flow;
 use sp_base::name::Name;
-use sp_base::number::{CopyNo, FlowNo};
+use sp_base::number::FlowNo;
 use sp_copies::closed::{Cause, Closing};
 use sp_copies::made::MadeCopy;
 use sp_endpoint::endpoint::Endpoint;
@@ -83,28 +82,6 @@ fn push_rebound(
         changes.push(Change::Becomes(bound))?;
     }
     Ok(())
-}
-
-/// Copies are given back, and the flow goes.
-pub fn unbinding(alloc: Global, copies: &[CopyNo], flow: FlowNo) -> Result<Vec<Change>, AllocError>
-    ensures { IfOk result (λ changes. changes_of changes.items ≡ map frees copies.now ++ unbinds flow ∷ []) }
-{
-    let mut changes = freed(alloc, copies)?;
-    changes.push(Change::Unbinds(flow))?;
-    Ok(changes)
-}
-
-// The changes that give copies back.
-fn freed(alloc: Global, copies: &[CopyNo]) -> Result<Vec<Change>, AllocError>
-    ensures { IfOk result (λ changes. changes.items ≡ map (λ c. Change.Frees c) copies.now) }
-{
-    copies.iter().map(freeing).collect(alloc)
-}
-
-fn freeing(copy: &CopyNo) -> Change
-    ensures { result ≡ Change.Frees copy.now }
-{
-    Change::Frees(*copy)
 }
 
 /// Copies are handed out to a flow.

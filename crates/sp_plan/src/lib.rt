@@ -4,11 +4,13 @@
 
 pub mod asking;
 pub mod change;
+pub mod delivering;
 pub mod flow_changes;
 pub mod need;
 pub mod plan;
 pub mod published;
 pub mod publishing;
+pub mod quota;
 pub mod reach;
 pub mod told;
 pub mod topics;

@@ -45,6 +45,10 @@ impl Need {
                 copies: shares.len(),
                 ..Need::NONE
             },
+            Change::Moves { .. } => Need {
+                copies: 1,
+                ..Need::NONE
+            },
             Change::Binds(_) => Need {
                 flows: 1,
                 ..Need::NONE

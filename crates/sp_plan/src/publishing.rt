@@ -3,6 +3,7 @@ ghost use Rattle.sp_ledger.specs.Publish.{partition_for, share_for, told_copies}
 ghost use Rattle.std.specs.Prelude.{◌≡◌, ◌≤◌, ◌+◌, ◌^◌, IfOk, length, map};
 
 use sp_base::items::Items;
+use sp_base::moment::Moment;
 use sp_base::number::{CopyNo, MessageNo};
 use sp_config::attributes::Attributes;
 use sp_copies::closed::Fate;
@@ -13,16 +14,20 @@ use sp_message::message::Message;
 use sp_message::partition::partition;
 use std::alloc::{AllocError, Global};
 
-/// The copies of a message of this number, one for each endpoint that takes it.
+/// The copies of a message of this number that is published at a moment, one for each endpoint that
+/// takes it.
 pub fn all_shares(
     alloc: Global,
     into: &[&Endpoint],
     message: &Message,
     number: MessageNo,
+    moment: Moment,
 ) -> Result<Items<Share>, AllocError>
-    ensures { IfOk result (λ shares. shares ≡ map (λ e. share_for message.now number e.now) into.now) }
+    ensures { IfOk result (λ shares. shares ≡ map (λ e. share_for message.now number moment e.now) into.now) }
 {
-    Ok(Items::from_vec(shares_of(alloc, into, message, number)?))
+    Ok(Items::from_vec(shares_of(
+        alloc, into, message, number, moment,
+    )?))
 }
 
 fn shares_of(
@@ -30,16 +35,17 @@ fn shares_of(
     into: &[&Endpoint],
     message: &Message,
     number: MessageNo,
+    moment: Moment,
 ) -> Result<Vec<Share>, AllocError>
-    ensures { IfOk result (λ shares. shares.items ≡ map (λ e. share_for message.now number e.now) into.now) }
+    ensures { IfOk result (λ shares. shares.items ≡ map (λ e. share_for message.now number moment e.now) into.now) }
 {
     into.iter()
-        .map(|e| share_for(e, message, number))
+        .map(|e| share_for(e, message, number, moment))
         .collect(alloc)
 }
 
-fn share_for(endpoint: &Endpoint, message: &Message, number: MessageNo) -> Share
-    ensures { result ≡ share_for message.now number endpoint.now }
+fn share_for(endpoint: &Endpoint, message: &Message, number: MessageNo, moment: Moment) -> Share
+    ensures { result ≡ share_for message.now number moment endpoint.now }
 {
     Share {
         copy: NewCopy {
@@ -47,15 +53,15 @@ fn share_for(endpoint: &Endpoint, message: &Message, number: MessageNo) -> Share
             message: number,
             size: message.size(),
             origin: Origin::Published,
-            deadline: None,
+            deadline: endpoint.attributes.deadline(message.ttl.value(), moment),
             partition: partition_for(&endpoint.attributes, message, number),
         },
         is_spooled: true,
     }
 }
 
-// The partition that a message belongs to: only a partitioned queue has several.
-fn partition_for(attributes: &Attributes, message: &Message, number: MessageNo) -> u64
+/// The partition that a message of this number belongs to: only a partitioned queue has several.
+pub fn partition_for(attributes: &Attributes, message: &Message, number: MessageNo) -> u64
     ensures { result ≡ partition_for message.now number attributes.now }
 {
     if !attributes.is_partitioned() {

@@ -94,9 +94,11 @@ impl Selector {
         })
     }
 
-    /// The selector's text.
+    /// The selector's text, which has a tree.
     pub fn as_bytes(&self) -> &[u8]
-        ensures { result.now ≡ self.now }
+        ensures value { result.now ≡ self.now }
+        ensures form { selector_fault self.now ≡ None }
+        ensures bound { length self.now ≤ 2000 }
     {
         self.text.as_slice()
     }

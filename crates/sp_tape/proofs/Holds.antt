@@ -26,7 +26,7 @@ use Rattle.sp_ledger.specs.Order.{HandsOutInOrder}
 use Rattle.sp_ledger.specs.Step.{Outcome, begun, refused, idle, accepted}
 use Rattle.sp_ledger.specs.Tally.{TellsBalanced}
 use Rattle.sp_ledger.specs.Told.{Extends, FateHolds, IsTold, TellsFates, told_fates}
-use Rattle.sp_ledger.proofs.Answered.{accepted_balanced, answer_balanced, answer_tells, idle_balanced}
+use Rattle.sp_ledger.proofs.Answered.{accepted_balanced, answer_balanced, answer_shows, idle_balanced}
 use Rattle.sp_ledger.proofs.CopiesKept.{kept_of}
 use Rattle.sp_ledger.proofs.Fates.{one_fate}
 use Rattle.sp_ledger.proofs.Growth.{Extends-refl, Extends-trans, outcome_extends, still_told}
@@ -34,7 +34,7 @@ use Rattle.sp_ledger.proofs.InOrder.{accepted_in_order, answer_in_order, idle_in
 use Rattle.sp_ledger.proofs.Listed.{All-any}
 use Rattle.sp_ledger.proofs.Steps.{outcome_sound}
 use Rattle.sp_ledger.proofs.Tallies.{closed-closing}
-use Rattle.sp_ledger.proofs.Telling.{accepted_tells, idle_tells, told_so}
+use Rattle.sp_ledger.proofs.Telling.{accepted_tells, idle_tells, shown_so, told_so}
 use Rattle.sp_tape.specs.declared.entry.Entry.{Entry}
 use Rattle.sp_tape.specs.declared.entry.Kind.{Kind}
 use Rattle.sp_tape.specs.declared.entry.Kind.TheVariants.{Flow, Http, Rdp, Restart}
@@ -113,7 +113,7 @@ module _ (L M : Ledger) (s : IsLedger L) (moment : ℕ) (caller : List ℕ) (sho
   answers (Look query) (Gave reply) h =
       stays moment L M (Gave reply) s h.1 (
         subst (λ (N : Ledger). IsTold N.copies reply) (sym h.1)
-            (told_so L.copies reply (answer_tells L moment caller query reply h.0)),
+            (shown_so L.copies reply (answer_shows L moment caller query reply h.0)),
         answer_balanced L s.sound moment caller query reply h.0,
       )
       (answer_in_order L (begun moment L) moment caller query reply h.0)

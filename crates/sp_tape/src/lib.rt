@@ -2,6 +2,8 @@
 #![tactic(auto)]
 
 mod body;
+#[cfg(test)]
+mod ending_tests;
 pub mod entry;
 #[cfg(test)]
 mod flow_tests;

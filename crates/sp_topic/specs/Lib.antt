@@ -1,4 +1,3 @@
 pub mod Matching
 pub mod Subscription
 pub mod Subscriptions
-pub mod Tree

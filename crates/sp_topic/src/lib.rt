@@ -1,10 +1,10 @@
-//! Subscriptions to topics: which topics a subscription matches, which ones the subscriptions of an
-//! endpoint take, and the endpoints of a whole tree of subscriptions that take a topic.
+//! Subscriptions to topics: which topics a subscription matches, and which ones the subscriptions of
+//! an endpoint take.
 #![tactic(auto)]
 
+pub mod cut;
 mod matching;
 pub mod subscription;
 pub mod subscriptions;
 #[cfg(test)]
 mod tests;
-pub mod tree;

@@ -135,12 +135,19 @@ impl Subscription {
         after_mark(self.text.as_str().as_bytes()).is_some()
     }
 
+    /// The topic that it names, which an exception has after its `!`.
+    pub fn topic(&self) -> &[u8]
+        ensures { result.now ≡ topic_of self.now }
+    {
+        topic_of(self.text.as_str().as_bytes())
+    }
+
     /// Whether it matches the topic. An exception is read without its `!`.
     #[tactic(auto, unfolding(crate::specs::Matching::matches))]
     pub fn matches(&self, topic: &Topic) -> bool
         ensures { result ≡ matches self.now topic.now }
     {
-        texts_match(topic_of(self.text.as_str().as_bytes()), topic.as_bytes())
+        texts_match(self.topic(), topic.as_bytes())
     }
 
     /// Whether it is plain and matches the topic.

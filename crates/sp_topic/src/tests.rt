@@ -1,7 +1,5 @@
 use crate::subscription::{Subscription, SubscriptionError};
 use crate::subscriptions::{AddError, MOST_SUBSCRIPTIONS, Subscriptions};
-use crate::tree::Tree;
-use sp_base::number::EndpointNo;
 use sp_base::topic::Topic;
 use std::test::Fail;
 
@@ -117,38 +115,5 @@ fn an_endpoint_has_a_hundred_at_most(rt: HostRuntime) -> Result<(), Fail> {
     assert!(rt; matches!(again, Err(AddError::Exists)));
     let more = subscriptions.add(Subscription::read(alloc, b"100")?);
     assert!(rt; matches!(more, Err(AddError::Full)));
-    Ok(())
-}
-
-#[test]
-fn a_tree_gives_each_endpoint_once_in_rising_number(rt: HostRuntime) -> Result<(), Fail> {
-    let alloc = rt.alloc();
-    let mut tree = Tree::new(alloc);
-    for (endpoint, text) in [
-        (EndpointNo::of(9), "a/*/c"),
-        (EndpointNo::of(2), "a/b*/c"),
-        (EndpointNo::of(3), "a/>"),
-        (EndpointNo::of(4), "a/b/c/>"),
-        (EndpointNo::of(5), ">"),
-        (EndpointNo::of(9), "a/b/*"),
-        (EndpointNo::of(1), ">"),
-        (EndpointNo::of(1), "!a/>"),
-        (EndpointNo::of(6), "!a/b/c"),
-    ] {
-        tree.insert(endpoint, &Subscription::read(alloc, text.as_bytes())?)?;
-    }
-    let mut into = Vec::from_slice(alloc, &[EndpointNo::of(7), EndpointNo::of(3)])?;
-    tree.matching(&Topic::read(alloc, b"a/b/c")?, &mut into)?;
-    let expected = [2, 3, 5, 9];
-    assert_eq!(rt; into.len(), expected.len());
-    for (found, number) in into.iter().zip(expected.iter()) {
-        assert_eq!(rt; found.value(), *number);
-    }
-    let rest = Subscription::read(alloc, b">")?;
-    tree.reserve(&rest)?;
-    tree.remove(EndpointNo::of(5), &rest);
-    tree.matching(&Topic::read(alloc, b"x")?, &mut into)?;
-    assert_eq!(rt; into.len(), 1);
-    assert_eq!(rt; into[0].value(), 1);
     Ok(())
 }

@@ -1,13 +1,14 @@
 // What a store tells of its copies and of who holds them.
-ghost use Rattle.std.specs.Prelude.{◌≡◌, ◌≤◌, ◌^◌, length, IfOk};
-ghost use Rattle.sp_copies.specs.History.{History, copy_of, fate_of, attempts_of, used_bytes, holder_in, holder_of, held_by, is_held, is_held_by, is_spooled, is_free, next_spooled, open_copies, waiting_copies};
+ghost use Rattle.std.specs.Prelude.{◌≡◌, ◌≤◌, ◌^◌, length, take, IfOk};
+ghost use Rattle.sp_copies.specs.History.{History, copy_of, fate_of, attempts_of, used_bytes, holder_in, holder_of, held_by, held_copies, held_copy, free_copies, is_held, is_held_by, is_spooled, is_free, next_spooled, open_copies, waiting_copies};
+ghost use Rattle.sp_copies.specs.Due.{due_copies, first_due};
 ghost use Rattle.sp_copies.specs.Kept.{Records};
 
 use crate::closed::Fate;
 use crate::copies::Copies;
 use crate::look::used_by;
 use crate::made::MadeCopy;
-use crate::{fates, holders};
+use crate::{due, fates, holders};
 use sp_base::items::Items;
 use sp_base::moment::Moment;
 use sp_base::number::{CopyNo, EndpointNo, FlowNo};
@@ -124,6 +125,25 @@ impl Copies {
         holders::count_held_by(self.held.as_slice(), flow)
     }
 
+    /// The same as they were made.
+    pub fn held_copies(&self, alloc: Global, flow: FlowNo) -> Result<Items<MadeCopy>, AllocError>
+        ensures { IfOk result (λ copies. (H : History) → Records self.now H → copies ≡ held_copies H flow) }
+    {
+        let copies = holders::held_copies(alloc, self.made.as_slice(), self.held.as_slice(), flow)?;
+        Ok(Items::from_vec(copies))
+    }
+
+    /// A copy as it was made, where this flow holds it.
+    pub fn held_copy(&self, flow: FlowNo, copy: CopyNo) -> Option<MadeCopy>
+        ensures { (H : History) → Records self.now H → result ≡ held_copy H flow copy }
+    {
+        if self.is_held_by(flow, copy) {
+            self.copy(copy)
+        } else {
+            None
+        }
+    }
+
     /// The spooled copies of an endpoint, in order of number.
     pub fn spooled_in(
         &self,
@@ -137,6 +157,58 @@ impl Copies {
             self.made.as_slice(),
             self.closed.as_slice(),
             endpoint,
+        )?;
+        Ok(Items::from_vec(copies))
+    }
+
+    /// The spooled copies of an endpoint that no flow holds, in order of number.
+    pub fn free_in(
+        &self,
+        alloc: Global,
+        endpoint: EndpointNo,
+    ) -> Result<Items<MadeCopy>, AllocError>
+        ensures { IfOk result (λ copies. (H : History) → Records self.now H → copies ≡ free_copies H endpoint) }
+    {
+        let copies = holders::free_in(
+            alloc,
+            self.made.as_slice(),
+            self.closed.as_slice(),
+            self.held.as_slice(),
+            endpoint,
+        )?;
+        Ok(Items::from_vec(copies))
+    }
+
+    /// The first copy that is due: of those that are spooled, held by no flow, and whose deadline
+    /// is at or before the moment, the one with the earliest deadline, and of several the one with
+    /// the least number.
+    pub fn first_due(&self, moment: Moment) -> Option<CopyNo>
+        ensures { (H : History) → Records self.now H → result ≡ first_due H moment }
+    {
+        due::first_due(
+            self.made.as_slice(),
+            self.closed.as_slice(),
+            self.held.as_slice(),
+            moment,
+        )
+    }
+
+    /// The first `most` copies that are due, in order of deadline and then of number.
+    pub fn due(
+        &self,
+        alloc: Global,
+        moment: Moment,
+        most: usize,
+    ) -> Result<Items<MadeCopy>, AllocError>
+        ensures { IfOk result (λ copies. (H : History) → Records self.now H → copies ≡ take most (due_copies H moment)) }
+    {
+        let copies = due::due(
+            alloc,
+            self.made.as_slice(),
+            self.closed.as_slice(),
+            self.held.as_slice(),
+            moment,
+            most,
         )?;
         Ok(Items::from_vec(copies))
     }

@@ -79,6 +79,7 @@ impl Core {
             Change::Becomes(endpoint) => self.become_other(endpoint),
             Change::Publishes { message, shares } => self.publish(message, shares),
             Change::Closes { copy, how } => self.close(copy, how),
+            Change::Moves { copy, new } => self.move_copy(copy, new),
             Change::Holds { copy, flow } => self.hold(copy, flow),
             Change::Frees(copy) => self.free(copy),
             Change::Binds(flow) => self.bind(flow),

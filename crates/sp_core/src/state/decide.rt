@@ -51,19 +51,21 @@ impl Core {
                 endpoint,
                 subscription,
             } => self.decide_unsubscribe(alloc, endpoint, subscription),
-            Event::Publish { message } => self.decide_publish(alloc, message),
+            Event::Publish { message } => self.decide_publish(alloc, moment, message),
             Event::Bind {
                 endpoint,
                 selector,
                 topic,
             } => self.decide_bind(alloc, caller, endpoint, selector, topic),
-            Event::Unbind { flow } => self.decide_unbind(alloc, caller, *flow),
+            Event::Unbind { flow } => self.decide_unbind(alloc, moment, caller, *flow),
             Event::Pull { flow, count } => self.decide_pull(alloc, moment, caller, *flow, *count),
             Event::Settle {
                 flow,
                 copy,
                 outcome,
-            } => self.decide_settle(alloc, caller, *flow, *copy, *outcome),
+            } => self.decide_settle(alloc, moment, caller, *flow, *copy, *outcome),
+            Event::Tick => self.decide_tick(alloc, moment),
+            Event::DeleteCopies { endpoint, copy } => self.decide_delete(alloc, endpoint, *copy),
         }
     }
 

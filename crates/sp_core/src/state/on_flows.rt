@@ -3,34 +3,33 @@ ghost use Rattle.sp_access.specs.Flows.{flow_count};
 ghost use Rattle.sp_base.specs.Declined.{Obeys};
 ghost use Rattle.sp_base.specs.Name.{is_caller};
 ghost use Rattle.sp_copies.specs.Counts.{spooled_count};
-ghost use Rattle.sp_copies.specs.History.{held_by, attempts_of, is_held_by};
+ghost use Rattle.sp_copies.specs.History.{held_by};
 ghost use Rattle.sp_core.specs.Decided.{bind_plan, verdict};
 ghost use Rattle.sp_core.specs.Stands.{Stands};
 ghost use Rattle.sp_endpoint.specs.Endpoints.{numbered};
 ghost use Rattle.sp_ledger.specs.Changes.{holds};
-ghost use Rattle.sp_ledger.specs.Ledger.{Ledger, message_of};
-ghost use Rattle.sp_ledger.specs.OnFlows.{bind, can_take, fits_kind, is_rebound, outdated, rebound, unbind, delivered, deliveries, pull, pulled, settle};
-ghost use Rattle.sp_ledger.specs.Step.{first_refusal, is_spent, rule, begun, unit_check};
+ghost use Rattle.sp_ledger.specs.Ledger.{Ledger};
+ghost use Rattle.sp_ledger.specs.OnFlows.{bind, fits_kind, is_rebound, outdated, rebound, unbind, deliveries, pull, pulled, settle};
+ghost use Rattle.sp_ledger.specs.Step.{first_refusal, is_spent, rule, begun};
 ghost use Rattle.std.specs.Option.{option_copied};
-ghost use Rattle.std.specs.Prelude.{◌≡◌, ◌&&◌, ◌==◌, ◌∷◌, [], IfOk, None, Some, filter, map, nat_le, not, take, true, ◌<◌, ◌^◌, length, option_map};
+ghost use Rattle.std.specs.Prelude.{◌≡◌, ◌&&◌, ◌==◌, ◌∷◌, [], IfOk, None, Some, map, nat_le, not, true, length};
 
 use crate::state::Core;
 use sp_base::declined::Declined;
-use sp_base::items::{Items, push_some};
+use sp_base::items::Items;
 use sp_base::moment::Moment;
 use sp_base::name::Name;
-use sp_base::number::{CopyNo, EndpointNo, FlowNo, MessageNo};
+use sp_base::number::{CopyNo, EndpointNo, FlowNo};
 use sp_base::refusal::{Kind, Refusal};
-use sp_copies::closed::{Closing, Fate};
 use sp_copies::made::MadeCopy;
 use sp_endpoint::endpoint::Endpoint;
-use sp_event::answer::{Delivery, Reply};
+use sp_ending::plans::{settle_plan, unbind_plan};
+use sp_event::answer::Reply;
 use sp_event::request::{Outcome, PullCount};
 use sp_plan::asking::{SPENT, unknown_endpoint, unknown_flow};
-use sp_plan::change::Change;
-use sp_plan::flow_changes::{binding, handed_out, new_flow, unbinding};
+use sp_plan::delivering::deliveries;
+use sp_plan::flow_changes::{binding, handed_out, new_flow};
 use sp_plan::plan::Plan;
-use sp_plan::published::{Published, delivered, find_message};
 use sp_plan::reach::first_taken;
 use sp_plan::topics::{fits_kind, is_exception, is_rebound, rebound};
 use sp_selector::selector::Selector;
@@ -140,32 +139,19 @@ impl Core {
     pub(crate) fn decide_unbind(
         &self,
         alloc: Global,
+        moment: Moment,
         caller: &Name,
         flow: FlowNo,
     ) -> Result<Plan, Declined<Refusal>>
-        ensures { (L : Ledger) → Stands self.now L → Obeys (verdict L (unbind caller.now flow L)) result }
+        ensures { (L : Ledger) → Stands self.now L → Obeys (verdict L (unbind caller.now flow (begun moment L))) result }
     {
-        if self.find_flow(caller, flow).is_none() {
+        let Some(_) = self.find_flow(caller, flow) else {
             return Err(unknown_flow(flow));
-        }
-        if let Some(refusal) = self.unit_refusal() {
-            return Err(Declined::Refused(refusal));
-        }
-        let copies = self.held_by(alloc, flow)?;
-        let reply = Reply::Unbind {
-            flow,
-            closed: Items::none(alloc),
-            returned: copies.len() as u64,
         };
-        let changes = unbinding(alloc, copies.as_slice(), flow)?;
-        Ok(Plan { changes, reply })
-    }
-
-    // The copies that a flow holds, in order of number.
-    fn held_by(&self, alloc: Global, flow: FlowNo) -> Result<Items<CopyNo>, AllocError>
-        ensures { IfOk result (λ copies. (L : Ledger) → Stands self.now L → copies ≡ held_by L.copies flow) }
-    {
-        self.copies.held_by(alloc, flow)
+        let held = self.copies.held_copies(alloc, flow)?;
+        let (endpoints, copies, messages) = self.tables();
+        let plan = unbind_plan(alloc, endpoints, copies, messages, flow, held.as_slice())?;
+        self.judge(plan)
     }
 
     pub(crate) fn decide_pull(
@@ -185,10 +171,8 @@ impl Core {
             return Err(unknown_flow(flow));
         };
         let copies = self.pulled(alloc, endpoint, flow, count.value(), moment)?;
-        match self.pull_refusal(flow, copies.as_slice()) {
-            Some(refusal) => Err(Declined::Refused(refusal)),
-            None => Ok(self.pull_plan(alloc, flow, copies.as_slice())?),
-        }
+        let plan = self.pull_plan(alloc, flow, copies.as_slice())?;
+        self.judge(plan)
     }
 
     // The copies are handed out to the flow.
@@ -205,7 +189,7 @@ impl Core {
     {
         let reply = Reply::Pull {
             flow,
-            deliveries: self.deliveries(alloc, copies)?,
+            deliveries: deliveries(alloc, &self.copies, self.messages.as_slice(), copies)?,
         };
         let changes = handed_out(alloc, flow, copies)?;
         Ok(Plan { changes, reply })
@@ -233,23 +217,9 @@ impl Core {
         let most = count.min(window.saturating_sub(held));
         let later = self.later(moment);
         let waiting = self.copies.waiting(alloc, endpoint.number, later)?;
-        self.first_taken(alloc, endpoint, flow, waiting.as_slice(), most as usize)
-    }
-
-    // The first of the copies that the flow may take.
-    fn first_taken(
-        &self,
-        alloc: Global,
-        endpoint: &Endpoint,
-        flow: FlowNo,
-        copies: &[MadeCopy],
-        most: usize,
-    ) -> Result<Items<MadeCopy>, AllocError>
-        ensures { IfOk result (λ taken. (L : Ledger) → Stands self.now L → taken ≡ take most (filter (can_take L endpoint.now flow) copies.now)) }
-    {
-        let messages = self.messages.as_slice();
-        let (flows, store) = (&self.flows, &self.copies);
-        first_taken(alloc, flows, store, messages, endpoint, flow, copies, most)
+        let (flows, store, messages) = (&self.flows, &self.copies, self.messages.as_slice());
+        let waiting = waiting.as_slice();
+        first_taken(alloc, flows, store, messages, endpoint, flow, waiting, most as usize)
     }
 
     fn held_count(&self, flow: FlowNo) -> usize
@@ -258,82 +228,26 @@ impl Core {
         self.copies.count_held_by(flow)
     }
 
-    // Where copies are handed out, a number has to be left for the unit.
-    fn pull_refusal(&self, flow: FlowNo, copies: &[MadeCopy]) -> Option<Refusal>
-        ensures { (L : Ledger) → Stands self.now L → result ≡ first_refusal (unit_check L (map (λ c. holds c.number flow) copies.now) ∷ []) }
-    {
-        if copies.is_empty() {
-            return None;
-        }
-        self.unit_refusal()
-    }
-
-    fn deliveries(&self, alloc: Global, copies: &[MadeCopy]) -> Result<Items<Delivery>, AllocError>
-        ensures { IfOk result (λ ds. (L : Ledger) → Stands self.now L → ds ≡ deliveries L copies.now) }
-    {
-        let mut told = Vec::new(alloc);
-        for copy in copies {
-            push_some(&mut told, self.delivery_of(alloc, copy)?)?;
-        }
-        Ok(Items::from_vec(told))
-    }
-
-    fn delivery_of(&self, alloc: Global, copy: &MadeCopy) -> Result<Option<Delivery>, AllocError>
-        ensures { IfOk result (λ d. (L : Ledger) → Stands self.now L → d ≡ option_map (delivered L copy.now) (message_of L.messages copy.now.message)) }
-    {
-        match self.message(copy.message) {
-            None => Ok(None),
-            Some(published) => {
-                let attempt = self.attempts(copy.number) + 1;
-                Ok(Some(delivered(alloc, attempt, copy, published)?))
-            }
-        }
-    }
-
-    fn message(&self, number: MessageNo) -> Option<&Published>
-        ensures { (L : Ledger) → Stands self.now L → option_copied result ≡ message_of L.messages number }
-    {
-        find_message(self.messages.as_slice(), number)
-    }
-
-    // How often a copy was handed out: less often than there are units.
-    fn attempts(&self, copy: CopyNo) -> u64
-        ensures value { (L : Ledger) → Stands self.now L → result ≡ attempts_of L.copies.attempts copy }
-        ensures bound { result < 2 ^ 62 }
-    {
-        self.copies.attempts(copy)
-    }
-
     pub(crate) fn decide_settle(
         &self,
         alloc: Global,
+        moment: Moment,
         caller: &Name,
         flow: FlowNo,
         copy: CopyNo,
         outcome: Outcome,
     ) -> Result<Plan, Declined<Refusal>>
-        ensures { (L : Ledger) → Stands self.now L → Obeys (verdict L (settle caller.now flow copy outcome L)) result }
+        ensures { (L : Ledger) → Stands self.now L → Obeys (verdict L (settle caller.now flow copy outcome (begun moment L))) result }
     {
-        if self.find_flow(caller, flow).is_none() {
+        let Some(_) = self.find_flow(caller, flow) else {
             return Err(unknown_flow(flow));
-        }
-        if let Some(refusal) = self.settle_refusal(flow, copy) {
-            return Err(Declined::Refused(refusal));
-        }
-        let (how, fate) = match outcome {
-            Outcome::Accepted => (Closing::Accepted, Fate::Accepted),
         };
-        let reply = Reply::Settle { copy, fate };
-        Ok(Plan::of_one(alloc, Change::Closes { copy, how }, reply)?)
-    }
-
-    fn settle_refusal(&self, flow: FlowNo, copy: CopyNo) -> Option<Refusal>
-        ensures { (L : Ledger) → Stands self.now L → result ≡ first_refusal (rule (not (is_held_by L.copies.held flow copy)) (Refusal.NotHeld copy)
-            ∷ is_spent L.next.unit Kind.Unit ∷ []) }
-    {
-        if !self.copies.is_held_by(flow, copy) {
-            return Some(Refusal::NotHeld { copy: copy.value() });
-        }
-        self.unit_refusal()
+        let Some(held) = self.copies.held_copy(flow, copy) else {
+            let copy = copy.value();
+            return Err(Declined::Refused(Refusal::NotHeld { copy }));
+        };
+        let (endpoints, copies, messages) = self.tables();
+        let plan = settle_plan(alloc, endpoints, copies, messages, outcome, &held)?;
+        self.judge(plan)
     }
 }

@@ -5,12 +5,13 @@ ghost use Rattle.sp_core.specs.Stands.{Stands};
 ghost use Rattle.sp_endpoint.specs.Takers.{takers};
 ghost use Rattle.sp_ledger.specs.Ledger.{Ledger};
 ghost use Rattle.sp_ledger.specs.Publish.{lacks_queue, publish, quota_check, told_copies};
-ghost use Rattle.sp_ledger.specs.Step.{first_refusal, is_copy_spent, is_spent, rule};
+ghost use Rattle.sp_ledger.specs.Step.{begun, first_refusal, is_copy_spent, is_spent, rule};
 ghost use Rattle.sp_message.specs.Size.{dest_bytes, size_of};
 ghost use Rattle.std.specs.Prelude.{◌≡◌, ◌≤◌, ◌+◌, ◌^◌, ◌++◌, ◌∷◌, [], IfOk, length, map};
 
 use crate::state::Core;
 use sp_base::declined::Declined;
+use sp_base::moment::Moment;
 use sp_base::name::Name;
 use sp_base::refusal::{Kind, Refusal};
 use sp_endpoint::endpoint::Endpoint;
@@ -20,6 +21,7 @@ use sp_plan::asking::SPENT;
 use sp_plan::change::Change;
 use sp_plan::plan::Plan;
 use sp_plan::publishing::{all_shares, told_copies};
+use sp_plan::quota::quota_refusal;
 use std::alloc::{AllocError, Global};
 
 // The last copy number that a publish draws.
@@ -29,14 +31,15 @@ impl Core {
     pub(crate) fn decide_publish(
         &self,
         alloc: Global,
+        moment: Moment,
         message: &Message,
     ) -> Result<Plan, Declined<Refusal>>
-        ensures { (L : Ledger) → Stands self.now L → Obeys (verdict L (publish message.now L)) result }
+        ensures { (L : Ledger) → Stands self.now L → Obeys (verdict L (publish message.now (begun moment L))) result }
     {
         let into = self.takers(alloc, message)?;
         match self.publish_refusal(alloc, message, into.as_slice())? {
             Some(refusal) => Err(Declined::Refused(refusal)),
-            None => Ok(self.publish_plan(alloc, message, into.as_slice())?),
+            None => Ok(self.publish_plan(alloc, moment, message, into.as_slice())?),
         }
     }
 
@@ -73,7 +76,7 @@ impl Core {
         ensures { IfOk result (λ r. (L : Ledger) → Stands self.now L → r ≡ first_refusal (map (quota_check L size) (map (λ e. e.now) into.now)
             ++ is_spent L.next.message Kind.Message ∷ is_copy_spent (L.copies.next + length into.now) ∷ is_spent L.next.unit Kind.Unit ∷ [])) }
     {
-        match self.quota_refusal(alloc, into, size)? {
+        match quota_refusal(alloc, &self.copies, into, size)? {
             Some(refusal) => Ok(Some(refusal)),
             None => Ok(self.numbers_refusal(into.len())),
         }
@@ -100,44 +103,6 @@ impl Core {
         }))
     }
 
-    // The refusal by the first endpoint whose quota has no room for a copy of this many bytes.
-    fn quota_refusal(
-        &self,
-        alloc: Global,
-        into: &[&Endpoint],
-        size: u64,
-    ) -> Result<Option<Refusal>, AllocError>
-        ensures { IfOk result (λ r. (L : Ledger) → Stands self.now L → r ≡ first_refusal (map (quota_check L size) (map (λ e. e.now) into.now))) }
-    {
-        for endpoint in into {
-            if let Some(refusal) = self.excess(alloc, endpoint, size)? {
-                return Ok(Some(refusal));
-            }
-        }
-        Ok(None)
-    }
-
-    fn excess(
-        &self,
-        alloc: Global,
-        endpoint: &Endpoint,
-        size: u64,
-    ) -> Result<Option<Refusal>, AllocError>
-        ensures { IfOk result (λ r. (L : Ledger) → Stands self.now L → r ≡ first_refusal (quota_check L size endpoint.now ∷ [])) }
-    {
-        let used = self.copies.used(endpoint.number);
-        let max = endpoint.attributes.quota_bytes();
-        if used.saturating_add(size) <= max {
-            return Ok(None);
-        }
-        Ok(Some(Refusal::QuotaExceeded {
-            name: endpoint.name.text(alloc)?,
-            used,
-            size,
-            max,
-        }))
-    }
-
     // Whether the numbers that a publish of this many copies draws are drawn.
     fn numbers_refusal(&self, copies: usize) -> Option<Refusal>
         ensures { (L : Ledger) → Stands self.now L → result ≡ first_refusal (is_spent L.next.message Kind.Message ∷ is_copy_spent (L.copies.next + copies) ∷ is_spent L.next.unit Kind.Unit ∷ []) }
@@ -157,15 +122,16 @@ impl Core {
     fn publish_plan(
         &self,
         alloc: Global,
+        moment: Moment,
         message: &Message,
         into: &[&Endpoint],
     ) -> Result<Plan, AllocError>
         requires { (L : Ledger) → Stands self.now L → L.copies.next + length into.now ≤ 2 ^ 62 }
-        ensures { IfOk result (λ plan. (L : Ledger) → Stands self.now L → plan ≡ publish_plan message.now (map (λ e. e.now) into.now) L) }
+        ensures { IfOk result (λ plan. (L : Ledger) → Stands self.now L → plan ≡ publish_plan message.now (map (λ e. e.now) into.now) (begun moment L)) }
     {
         let number = self.next_message;
         let told = told_copies(alloc, into, self.copies.next())?;
-        let shares = all_shares(alloc, into, message, number)?;
+        let shares = all_shares(alloc, into, message, number, self.later(moment))?;
         let message = message.copy(alloc)?;
         let reply = Reply::Publish {
             message: number,

@@ -3,7 +3,7 @@ ghost use Rattle.sp_core.specs.Room.{Has, Takes};
 ghost use Rattle.sp_plan.specs.Plan.{need_of};
 ghost use Rattle.sp_core.specs.Stands.{Stands};
 ghost use Rattle.sp_ledger.specs.Allowed.{IsAllowed};
-ghost use Rattle.sp_ledger.specs.Changes.{becomes, binds, changed, closes, comes, frees, goes, holds, publishes, unbinds};
+ghost use Rattle.sp_ledger.specs.Changes.{becomes, binds, changed, closes, comes, frees, goes, holds, moves, publishes, unbinds};
 ghost use Rattle.sp_ledger.specs.Ledger.{Ledger};
 
 use crate::state::Core;
@@ -11,7 +11,7 @@ use sp_access::flow::Flow;
 use sp_base::items::Items;
 use sp_base::number::{CopyNo, EndpointNo, FlowNo, MessageNo};
 use sp_copies::closed::Closing;
-use sp_copies::made::Share;
+use sp_copies::made::{NewCopy, Share};
 use sp_endpoint::endpoint::Endpoint;
 use sp_message::message::Message;
 use sp_plan::published::Published;
@@ -64,6 +64,17 @@ impl Core {
         ensures room { Takes (need_of (closes copy how)) self.old self.new }
     {
         self.copies.close(copy, how, self.clock);
+    }
+
+    pub(crate) fn move_copy(&mut self, copy: CopyNo, new: NewCopy)
+        requires room { Has self.old (need_of (moves copy new)) }
+        requires may { (L : Ledger) × Stands self.old L × IsAllowed (moves copy new) L }
+        ensures changed { (L : Ledger) → Stands self.old L → IsAllowed (moves copy new) L → Stands self.new (changed (moves copy new) L) }
+        ensures room { Takes (need_of (moves copy new)) self.old self.new }
+    {
+        let to = CopyNo::of(self.copies.next());
+        self.copies.close(copy, Closing::Moved(to), self.clock);
+        self.copies.make(new);
     }
 
     pub(crate) fn hold(&mut self, copy: CopyNo, flow: FlowNo)

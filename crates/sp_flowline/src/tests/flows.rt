@@ -35,7 +35,7 @@ request 4|{"op":"copy","copy":null}
 1|{"op":"pull","flow":7}
 4611686018427387904|{"op":"unbind","flow":4611686018427387904}
 request 4|{"op":"unbind","flow":4611686018427387905}
-4611686018427387904|{"op":"settle","flow":1,"outcome":"accepted","copy":4611686018427387904}
+accepted 4611686018427387904|{"op":"settle","flow":1,"outcome":"accepted","copy":4611686018427387904}
 request 4|{"op":"settle","flow":1,"outcome":"accepted","copy":4611686018427387905}"#;
 
 #[test]
@@ -61,7 +61,7 @@ request 4|{"op":"bind","endpoint":"q1","selector":5,"topic":"!a"}
 request 2|{"op":"unbind","count":1}
 request 3|{"op":"unbind","flow":1,"count":1}
 request 3|{"op":"pull","flow":-1,"copy":1}
-1|{"op":"settle","flow":1,"copy":1,"outcome":"accepted"}
+accepted 1|{"op":"settle","flow":1,"copy":1,"outcome":"accepted"}
 request 2|{"op":"settle","flow":1,"copy":1,"x":1}
 request 4|{"op":"settle","flow":1,"copy":1,"outcome":"Accepted"}
 request 4|{"op":"settle","flow":1,"copy":1,"outcome":true}

@@ -5,7 +5,7 @@ use sp_base::name::Name;
 use sp_base::number::{CopyNo, EndpointNo, FlowNo, MessageNo};
 use sp_base::refusal::Refusal;
 use sp_copies::closed::{Cause, Fate};
-use sp_event::answer::{Answered, BoundFlow, CopyDetails, CopyFate, Delivery, Reply};
+use sp_event::answer::{Answered, BoundFlow, CopyDetails, Delivery, Reply};
 use sp_message::message::Dest;
 use sp_message::payload::Payload;
 use sp_message::property::Properties;
@@ -22,31 +22,6 @@ fn a_bind_tells_the_flow(rt: HostRuntime) -> Result<(), Fail> {
     };
     let text = r#"{"discarded":0,"endpoint":"q1","flow":1,"ok":"bind","unit":3}"#;
     assert!(rt; shows(alloc, Answered::Gave(reply), 3, text)?);
-    Ok(())
-}
-
-#[test]
-fn an_unbind_tells_what_it_closed(rt: HostRuntime) -> Result<(), Fail> {
-    let alloc = rt.alloc();
-    let nothing = Reply::Unbind {
-        flow: FlowNo::of(1),
-        closed: Items::none(alloc),
-        returned: 0,
-    };
-    let text = r#"{"closed":[],"flow":1,"ok":"unbind","returned":0,"unit":9}"#;
-    assert!(rt; shows(alloc, Answered::Gave(nothing), 9, text)?);
-    let expired = CopyFate {
-        copy: CopyNo::of(2),
-        fate: Fate::Discarded(Cause::Expired),
-    };
-    let one = Reply::Unbind {
-        flow: FlowNo::of(1),
-        closed: Items::one(alloc, expired)?,
-        returned: 1,
-    };
-    let text =
-        r#"{"closed":[{"cause":"Expired","copy":2,"fate":"discarded"}],"flow":1,"ok":"unbind","returned":1,"unit":6}"#;
-    assert!(rt; shows(alloc, Answered::Gave(one), 6, text)?);
     Ok(())
 }
 
@@ -88,35 +63,6 @@ fn a_pull_shows_payloads_as_text_or_as_base64(rt: HostRuntime) -> Result<(), Fai
         let reply = Reply::Pull {
             flow: FlowNo::of(flow),
             deliveries: Items::one(alloc, delivery)?,
-        };
-        assert!(rt; shows(alloc, Answered::Gave(reply), unit, text)?);
-    }
-    Ok(())
-}
-
-#[test]
-fn a_settle_tells_the_fate(rt: HostRuntime) -> Result<(), Fail> {
-    let alloc = rt.alloc();
-    for (fate, unit, text) in [
-        (
-            Fate::Accepted,
-            8,
-            r#"{"copy":1,"fate":"accepted","ok":"settle","unit":8}"#,
-        ),
-        (
-            Fate::Moved(CopyNo::of(2)),
-            10,
-            r#"{"copy":1,"fate":"moved","ok":"settle","to":2,"unit":10}"#,
-        ),
-        (
-            Fate::Discarded(Cause::DmqMissing),
-            9,
-            r#"{"cause":"DmqMissing","copy":1,"fate":"discarded","ok":"settle","unit":9}"#,
-        ),
-    ] {
-        let reply = Reply::Settle {
-            copy: CopyNo::of(1),
-            fate,
         };
         assert!(rt; shows(alloc, Answered::Gave(reply), unit, text)?);
     }

@@ -7,11 +7,12 @@ use sp_base::refusal::Refusal;
 use sp_config::setting::Setting;
 use sp_config::value::AttrValue;
 use sp_event::answer::Answered;
-use sp_event::request::{Ask, Event, Query};
-use sp_message::message::Dest;
+use sp_event::request::{Ask, Event, Outcome, Query};
+use sp_message::message::{Dest, Message};
 use std::alloc::{AllocError, Global};
 
-// What a request asks for: of an endpoint its values, of a flow the number that stands last.
+// What a request asks for: of an endpoint its values, of a flow the number that stands last, with
+// the outcome of a settle.
 fn asked(alloc: Global, ask: &Ask) -> Result<String, AllocError> {
     match ask {
         Ask::Do(
@@ -33,7 +34,7 @@ fn asked(alloc: Global, ask: &Ask) -> Result<String, AllocError> {
             "-{}",
             subscription.as_str()
         ),
-        Ask::Do(Event::Publish { message }) => sent(alloc, &message.dest),
+        Ask::Do(Event::Publish { message }) => published(alloc, message),
         Ask::Do(
             Event::Bind {
                 topic: Some(topic),
@@ -53,7 +54,24 @@ fn asked(alloc: Global, ask: &Ask) -> Result<String, AllocError> {
         Ask::Do(Event::Bind { topic: None, .. }) => String::from_str(alloc, "bind"),
         Ask::Do(Event::Unbind { flow }) => format!(in alloc; "{}", flow.value()),
         Ask::Do(Event::Pull { count, .. }) => format!(in alloc; "{}", count.value()),
-        Ask::Do(Event::Settle { copy, .. }) => format!(in alloc; "{}", copy.value()),
+        Ask::Do(Event::Settle { copy, outcome, .. }) => format!(in alloc;
+            "{} {}",
+            word(*outcome),
+            copy.value()
+        ),
+        Ask::Do(Event::Tick) => String::from_str(alloc, "tick"),
+        Ask::Do(
+            Event::DeleteCopies {
+                endpoint,
+                copy: None,
+            },
+        ) => format!(in alloc; "delete {}", endpoint.as_str()),
+        Ask::Do(
+            Event::DeleteCopies {
+                endpoint,
+                copy: Some(copy),
+            },
+        ) => format!(in alloc; "delete {} {}", endpoint.as_str(), copy.value()),
         Ask::Look(Query::Copy { copy }) => format!(in alloc; "{}", copy.value()),
         Ask::Look(Query::Flows { endpoint }) => format!(in alloc; "flows {}", endpoint.as_str()),
         Ask::Look(Query::Tally { endpoint: None }) => String::from_str(alloc, "all"),
@@ -63,6 +81,27 @@ fn asked(alloc: Global, ask: &Ask) -> Result<String, AllocError> {
             },
         ) => String::from_str(alloc, name.as_str()),
     }
+}
+
+fn word(outcome: Outcome) -> &'static str {
+    match outcome {
+        Outcome::Accepted => "accepted",
+        Outcome::Failed => "failed",
+        Outcome::Rejected => "rejected",
+    }
+}
+
+// Where a message goes, how long it lives if that has a bound, and whether it may go to a
+// dead-message queue.
+fn published(alloc: Global, message: &Message) -> Result<String, AllocError> {
+    let mut text = sent(alloc, &message.dest)?;
+    if message.ttl.value() > 0 {
+        text.push_str(format!(in alloc; " ttl {}", message.ttl.value())?.as_str())?;
+    }
+    if message.eligible {
+        text.push_str(" dmq")?;
+    }
+    Ok(text)
 }
 
 fn sent(alloc: Global, dest: &Dest) -> Result<String, AllocError> {

@@ -9,4 +9,5 @@ use Rattle.sp_flowline.proofs.publishes.topic_from.Goals as goal
 pub returns-in-Err-Bad : goal.returns-in-Err-Bad
 returns-in-Err-Bad c =
     sym (ap topic_from (sym c.as_bytes.ensures.value)
-    ∙ ap (λ fault. unless (option_map BadTopic fault) (Topic c.as_bytes.result.now)) ((c.in-Err-Bad.ensures.bad c.in-Err-Bad.at).0 cc))
+    ∙ ap (λ fault. unless (option_map BadTopic fault) (Topic c.as_bytes.result.now))
+    ((c.in-Err-Bad.ensures.bad c.in-Err-Bad.at).0 cc))

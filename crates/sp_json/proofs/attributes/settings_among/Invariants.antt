@@ -8,4 +8,6 @@ use Rattle.sp_json.specs.Attributes.{setting_from}
 use Rattle.sp_json.proofs.attributes.settings_among.Given as goal
 
 abbrev pub invariant-loop-attr : goal.invariant-loop-attr
-invariant-loop-attr l = l.rows.items ≡ filter_map (λ a. option_and_then (setting_from l.kind a) (get (name_of a) (view l.attributes))) (take l.attr-index l.attrs)
+invariant-loop-attr l =
+    l.rows.items ≡ filter_map (λ a. option_and_then (setting_from l.kind a) (get (name_of a) (view l.attributes)))
+    (take l.attr-index l.attrs)

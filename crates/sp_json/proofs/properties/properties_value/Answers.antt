@@ -13,12 +13,16 @@ loop-at-preserved c =
     let d = c.index-rows-at.result in
     let lt : i < length rows = omega (arith, c.loop-at.invariant.is_within, c.loop-at-test.true) in
     let next : i + 1 ≡ c.loop-at.at = omega (arith, c.loop-at-test.true) in
-    let rules : are_properties rows ≡ true = subst (λ (ps : List Property). are_properties ps ≡ true) (sym c.as_slice-rows.ensures.value) c.as_slice-rows.ensures.form in
+    let rules : are_properties rows ≡ true =
+    subst (λ (ps : List Property). are_properties ps ≡ true) (sym c.as_slice-rows.ensures.value)
+    c.as_slice-rows.ensures.form in
     record {
       is_within = omega (arith, lt);
       are_put =
           c.in_ok-put_property.ensures
-          ∙ (ap (put d.name (value_data d.value)) (c.loop-at.invariant.are_put ∙ ap (λ k. properties_members (drop k rows)) (sym next))
-          ∙ (ap (λ (p : Property). put p.name (value_data p.value) (properties_members (drop (i + 1) rows))) c.index-rows-at.is
+          ∙ (ap (put d.name (value_data d.value))
+          (c.loop-at.invariant.are_put ∙ ap (λ k. properties_members (drop k rows)) (sym next))
+          ∙ (ap (λ (p : Property). put p.name (value_data p.value) (properties_members (drop (i + 1) rows)))
+          c.index-rows-at.is
           ∙ put_next rows i d lt rules));
     }

@@ -8,4 +8,5 @@ use Rattle.sp_json.proofs.subscriptions.subscription_from.Goals as goal
 pub returns-in-Err-Bad : goal.returns-in-Err-Bad
 returns-in-Err-Bad c =
     ap subscription_from (sym c.as_bytes.ensures.value)
-    ∙ ap (λ fault. unless (option_map BadSubscription fault) c.as_bytes.result.now) ((c.in-Err-Bad.ensures.bad c.in-Err-Bad.at).0 cc)
+    ∙ ap (λ fault. unless (option_map BadSubscription fault) c.as_bytes.result.now)
+    ((c.in-Err-Bad.ensures.bad c.in-Err-Bad.at).0 cc)

@@ -3,11 +3,14 @@ use Rattle.sp_plan.specs.Plan.{changes_of}
 use Rattle.sp_copies.specs.declared.made.MadeCopy.{MadeCopy}
 use Rattle.sp_plan.specs.declared.change.Change.TheVariants.{Holds}
 use Rattle.sp_event.specs.declared.answer.Reply.TheVariants as replies
+use Rattle.sp_core.proofs.Standing.{standing}
 use Rattle.std.proofs.Common.{ap, ◌∙◌}
 use Rattle.sp_core.proofs.state.Core.pull_plan.Goals as goal
 
 pub returns : goal.returns
-returns c L s = λ i. record {
+returns c L s =
+    let t = standing _ _ L c.self.view_is s in
+    λ i. record {
   changes = (ap changes_of c.in_ok-changes.ensures ∙ each_change {X = MadeCopy} (λ k. Holds k.number c.args.flow) c.args.copies.now) i;
-  reply = replies.Pull c.args.flow (c.in_ok-deliveries.ensures L s i);
+  reply = replies.Pull c.args.flow (c.in_ok-deliveries.ensures L t.copies (c.as_slice.ensures ∙ t.messages) i);
 }

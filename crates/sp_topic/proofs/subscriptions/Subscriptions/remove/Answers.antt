@@ -2,7 +2,7 @@ use Rattle.std.proofs.Common.{◌≡◌, ◌∙◌, rules, ap, not, bytes_eq}
 use Rattle.std.specs.Prelude.{filter}
 use Rattle.std.proofs.lemmas.Fn.{filter_same}
 use Rattle.sp_topic.specs.Subscriptions.{has_text}
-use Rattle.sp_topic.proofs.Entries.{texts_kept}
+use Rattle.sp_topic.proofs.Texts.{texts_kept}
 use Rattle.sp_topic.proofs.subscriptions.Subscriptions.remove.Goals as goal
 use Rattle.sp_topic.proofs.subscriptions.Subscriptions.remove.Goals.{After-retain}
 

@@ -1,0 +1,13 @@
+use Rattle.std.proofs.Common.{◌&&◌, ◌∙◌, not, sym}
+use Rattle.sp_copies.specs.History.{has_come, is_closed, is_held}
+use Rattle.sp_copies.proofs.Deadlines.{first-more}
+use Rattle.sp_copies.proofs.due.least_due.Goals as goal
+
+pub loop-copy-preserved : goal.loop-copy-preserved
+loop-copy-preserved c =
+    c.earlier-first.ensures
+    ∙ first-more
+    (λ x. not (is_closed c.args.closed.now x.number) && not
+    (is_held c.args.held.now x.number) && has_come x.deadline c.args.moment)
+    c.args.made.now c.loop-copy.copy-index c.copy-item.result c.loop-copy.first c.loop-copy-test.true c.copy-item.is
+    (sym c.is_due.ensures ∙ c.if-not-is_due.false) c.loop-copy.invariant

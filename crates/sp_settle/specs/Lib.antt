@@ -1,0 +1,2 @@
+-- How a copy ends.
+pub mod Questions

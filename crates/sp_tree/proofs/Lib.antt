@@ -1,0 +1,10 @@
+pub mod Changes
+pub mod Collects
+pub mod Ends
+pub mod Found
+pub mod Lookups
+pub mod NewChild
+pub mod Paths
+pub mod Searches
+pub mod Trees
+pub mod Walks

@@ -1,0 +1,5 @@
+pub mod Children
+pub mod Node
+pub mod Nodes
+pub mod Path
+pub mod Tree
