@@ -229,10 +229,7 @@ fn copies_are_rejected_given_back_and_deleted(rt: HostRuntime) -> Result<(), Mem
     }
     assert_eq!(rt; take(alloc, &mut core, Step::Pull), Some(Ok((1, 2))));
     assert_eq!(rt; take(alloc, &mut core, Step::Reject), Some(Ok((1, 0))));
-    assert_eq!(rt;
-        fate(alloc, &core),
-        Some(Fate::Discarded(Cause::Rejected))
-    );
+    assert_eq!(rt; fate(alloc, &core), Some(Fate::Discarded(Cause::Rejected)));
     assert_eq!(rt; take(alloc, &mut core, Step::Unbind), Some(Ok((1, 1))));
     assert_eq!(rt; take(alloc, &mut core, Step::Delete), Some(Ok((1, 0))));
     assert_eq!(rt; take(alloc, &mut core, Step::Tick), Some(Ok((0, 0))));

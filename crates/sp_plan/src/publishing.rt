@@ -25,9 +25,7 @@ pub fn all_shares(
 ) -> Result<Items<Share>, AllocError>
     ensures { IfOk result (λ shares. shares ≡ map (λ e. share_for message.now number moment e.now) into.now) }
 {
-    Ok(Items::from_vec(shares_of(
-        alloc, into, message, number, moment,
-    )?))
+    Ok(Items::from_vec(shares_of(alloc, into, message, number, moment)?))
 }
 
 fn shares_of(

@@ -4,23 +4,45 @@ use std::alloc::{AllocError, Global};
 use std::test::Fail;
 
 const DEAD: &str = r##"{"op":"provision","endpoint":"#DEAD_MSG_QUEUE"}"##;
+
 const TWICE: &str = r#"{"op":"provision","endpoint":"q1","attributes":{"maxRedeliveryCount":2}}"#;
-const TO_ITSELF: &str = r#"{"op":"provision","endpoint":"q1","attributes":{"maxRedeliveryCount":2,"deadMsgQueue":"q1"}}"#;
+
+const TO_ITSELF: &str =
+    r#"{"op":"provision","endpoint":"q1","attributes":{"maxRedeliveryCount":2,"deadMsgQueue":"q1"}}"#;
+
 const TO_Q2: &str = r#"{"op":"provision","endpoint":"q1","attributes":{"deadMsgQueue":"q2"}}"#;
+
 const TO_Q1: &str = r#"{"op":"provision","endpoint":"q2","attributes":{"deadMsgQueue":"q1"}}"#;
-const CLOSED_Q2: &str = r#"{"op":"provision","endpoint":"q2","attributes":{"ingressEnabled":false}}"#;
-const RESPECTS: &str = r#"{"op":"provision","endpoint":"q1","attributes":{"respectTtlEnabled":true}}"#;
-const THREE_SECONDS: &str = r#"{"op":"provision","endpoint":"q1","attributes":{"respectTtlEnabled":true,"maxTtl":3}}"#;
+
+const CLOSED_Q2: &str =
+    r#"{"op":"provision","endpoint":"q2","attributes":{"ingressEnabled":false}}"#;
+
+const RESPECTS: &str =
+    r#"{"op":"provision","endpoint":"q1","attributes":{"respectTtlEnabled":true}}"#;
+
+const THREE_SECONDS: &str =
+    r#"{"op":"provision","endpoint":"q1","attributes":{"respectTtlEnabled":true,"maxTtl":3}}"#;
+
 const PUBLISH: &str = r#"{"op":"publish","queue":"q1","dmq":true}"#;
+
 const BIND: &str = r#"{"op":"bind","endpoint":"q1"}"#;
+
 const BIND_Q2: &str = r#"{"op":"bind","endpoint":"q2"}"#;
+
 const PULL: &str = r#"{"op":"pull","flow":1}"#;
+
 const PULL_ONE: &str = r#"{"op":"pull","flow":1,"count":1}"#;
+
 const PULL_Q2: &str = r#"{"op":"pull","flow":2}"#;
+
 const FAILED: &str = r#"{"op":"settle","flow":1,"copy":1,"outcome":"failed"}"#;
+
 const REJECTED: &str = r#"{"op":"settle","flow":1,"copy":1,"outcome":"rejected"}"#;
+
 const REJECTED_2: &str = r#"{"op":"settle","flow":2,"copy":2,"outcome":"rejected"}"#;
+
 const UNBIND: &str = r#"{"op":"unbind","flow":1}"#;
+
 const TICK: &str = r#"{"op":"tick"}"#;
 
 // Whether requests of ann, each at its moment, are answered, the last by this line.
@@ -72,7 +94,8 @@ fn an_unbind_ends_what_has_had_its_last_attempt(rt: HostRuntime) -> Result<(), F
     let requests = [
         TWICE, DEAD, PUBLISH, BIND, PULL, FAILED, PULL, FAILED, PULL, UNBIND,
     ];
-    let last = r#"{"closed":[{"copy":1,"fate":"moved","to":2}],"flow":1,"ok":"unbind","returned":0,"unit":10}"#;
+    let last =
+        r#"{"closed":[{"copy":1,"fate":"moved","to":2}],"flow":1,"ok":"unbind","returned":0,"unit":10}"#;
     assert!(rt; at_once(alloc, &requests, last)?);
     Ok(())
 }
@@ -113,7 +136,8 @@ fn a_copy_expires_by_a_tick_unless_it_is_held(rt: HostRuntime) -> Result<(), Fai
         (3000, PULL_ONE),
         (3000, TICK),
     ];
-    let last = r#"{"closed":[{"cause":"Expired","copy":2,"fate":"discarded"}],"ok":"tick","unit":6}"#;
+    let last =
+        r#"{"closed":[{"cause":"Expired","copy":2,"fate":"discarded"}],"ok":"tick","unit":6}"#;
     assert!(rt; ends_with(alloc, &held, last)?);
     let nothing = r#"{"deliveries":[],"flow":1,"ok":"pull","unit":5}"#;
     assert!(rt; ends_with(alloc, &held[..6], nothing)?);
@@ -132,7 +156,8 @@ fn a_deadline_counts_from_the_later_moment(rt: HostRuntime) -> Result<(), Fail> 
     ];
     let early = r#"{"closed":[],"ok":"tick","unit":3}"#;
     assert!(rt; ends_with(alloc, &requests[..4], early)?);
-    let last = r#"{"closed":[{"cause":"Expired","copy":2,"fate":"discarded"}],"ok":"tick","unit":4}"#;
+    let last =
+        r#"{"closed":[{"cause":"Expired","copy":2,"fate":"discarded"}],"ok":"tick","unit":4}"#;
     assert!(rt; ends_with(alloc, &requests, last)?);
     Ok(())
 }
@@ -142,9 +167,11 @@ fn a_deadline_counts_from_the_later_moment(rt: HostRuntime) -> Result<(), Fail> 
 fn the_second_of_two_ends_sees_what_the_first_left(rt: HostRuntime) -> Result<(), Fail> {
     let alloc = rt.alloc();
     let large = "x".repeat(alloc, 600_000)?;
-    let publish =
-        format!(in alloc; r#"{{"op":"publish","queue":"q1","dmq":true,"ttl":1000,"payload":"{large}"}}"#)?;
-    let from = r#"{"op":"provision","endpoint":"q1","attributes":{"respectTtlEnabled":true,"deadMsgQueue":"q2"}}"#;
+    let publish = format!(in alloc;
+        r#"{{"op":"publish","queue":"q1","dmq":true,"ttl":1000,"payload":"{large}"}}"#
+    )?;
+    let from =
+        r#"{"op":"provision","endpoint":"q1","attributes":{"respectTtlEnabled":true,"deadMsgQueue":"q2"}}"#;
     let small = r#"{"op":"provision","endpoint":"q2","attributes":{"maxMsgSpoolUsage":1}}"#;
     let requests = [
         (0, from),
@@ -153,7 +180,8 @@ fn the_second_of_two_ends_sees_what_the_first_left(rt: HostRuntime) -> Result<()
         (0, publish.as_str()),
         (1000, TICK),
     ];
-    let last = r#"{"closed":[{"copy":1,"fate":"moved","to":3},{"cause":"DmqQuota","copy":2,"fate":"discarded"}],"ok":"tick","unit":5}"#;
+    let last =
+        r#"{"closed":[{"copy":1,"fate":"moved","to":3},{"cause":"DmqQuota","copy":2,"fate":"discarded"}],"ok":"tick","unit":5}"#;
     assert!(rt; ends_with(alloc, &requests, last)?);
     Ok(())
 }
@@ -175,9 +203,11 @@ fn a_delete_leaves_what_is_held(rt: HostRuntime) -> Result<(), Fail> {
     ];
     let held = r#"{"closed":[],"endpoint":"q1","ok":"delete","unit":6}"#;
     assert!(rt; at_once(alloc, &requests[..7], held)?);
-    let named = r#"{"closed":[{"cause":"Deleted","copy":3,"fate":"discarded"}],"endpoint":"q1","ok":"delete","unit":7}"#;
+    let named =
+        r#"{"closed":[{"cause":"Deleted","copy":3,"fate":"discarded"}],"endpoint":"q1","ok":"delete","unit":7}"#;
     assert!(rt; at_once(alloc, &requests[..8], named)?);
-    let rest = r#"{"closed":[{"cause":"Deleted","copy":2,"fate":"discarded"}],"endpoint":"q1","ok":"delete","unit":8}"#;
+    let rest =
+        r#"{"closed":[{"cause":"Deleted","copy":2,"fate":"discarded"}],"endpoint":"q1","ok":"delete","unit":8}"#;
     assert!(rt; at_once(alloc, &requests, rest)?);
     Ok(())
 }

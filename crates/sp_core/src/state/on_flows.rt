@@ -22,8 +22,8 @@ use sp_base::name::Name;
 use sp_base::number::{CopyNo, EndpointNo, FlowNo};
 use sp_base::refusal::{Kind, Refusal};
 use sp_copies::made::MadeCopy;
-use sp_endpoint::endpoint::Endpoint;
 use sp_ending::plans::{settle_plan, unbind_plan};
+use sp_endpoint::endpoint::Endpoint;
 use sp_event::answer::Reply;
 use sp_event::request::{Outcome, PullCount};
 use sp_plan::asking::{SPENT, unknown_endpoint, unknown_flow};
@@ -214,12 +214,12 @@ impl Core {
     {
         let held = self.held_count(flow) as u64;
         let window = endpoint.attributes.max_delivered_unacked_msgs_per_flow();
-        let most = count.min(window.saturating_sub(held));
+        let most = count.min(window.saturating_sub(held)) as usize;
         let later = self.later(moment);
         let waiting = self.copies.waiting(alloc, endpoint.number, later)?;
         let (flows, store, messages) = (&self.flows, &self.copies, self.messages.as_slice());
-        let waiting = waiting.as_slice();
-        first_taken(alloc, flows, store, messages, endpoint, flow, waiting, most as usize)
+        let copies = waiting.as_slice();
+        first_taken(alloc, flows, store, messages, endpoint, flow, copies, most)
     }
 
     fn held_count(&self, flow: FlowNo) -> usize
