@@ -16,10 +16,10 @@ use Rattle.sp_config.specs.declared.value.AttrValue.TheVariants.{Whole, Flag, Wo
 use Rattle.sp_config.specs.Names.{all_attrs}
 use Rattle.sp_config.specs.Ranges.{is_in_range, is_within, range_of}
 use Rattle.sp_config.specs.Settings.{are_settings, number_of, rise_above}
-use Rattle.sp_message.specs.Decoding.{◌>>=◌, byte_at, list_at, number_within_at, tested, text_at, truth_at}
-use Rattle.sp_message.specs.Encoding.{list_bytes, number_bytes, text_bytes, truth_bytes}
+use Rattle.sp_message.specs.Decoding.{◌>>=◌, list_at, number_within_at, text_at, truth_at}
+use Rattle.sp_message.specs.Encoding.{text_bytes}
 use Rattle.sp_message.specs.MessageReading.{name_at}
-use Rattle.sp_message.proofs.Codecs.{IsBytes, IsCodec, Takes, Takes-byte, Takes-then, bind_some, list_codec, number_within_codec, refit, some_is, tested_codec, text_codec, truth_codec}
+use Rattle.sp_message.proofs.Codecs.{IsBytes, IsCodec, Takes, Takes-byte, bind_some, list_codec, number_within_codec, refit, some_is, tested_codec, text_codec, truth_codec}
 use Rattle.sp_message.proofs.Messages.{name_codec}
 use Rattle.sp_unit.specs.UnitBytes.{are_attributes, attr_value_bytes, is_named, setting_bytes, settings_bytes}
 use Rattle.sp_unit.specs.UnitReading.{attr_value_at, attribute_numbered, owner_at, setting_at, settings_at, word_at}
@@ -50,7 +50,8 @@ NumberedFrom : ℕ → List Attr → Type 0
 NumberedFrom k [] = Unit {0}
 NumberedFrom k (a ∷ attrs) = (number_of a ≡ k) × NumberedFrom (suc k) attrs
 
-numbered_in : (k : ℕ) (attrs : List Attr) (i : ℕ) (a : Attr) → NumberedFrom k attrs → slice_get attrs i ≡ Some a → number_of a ≡ k + i
+numbered_in : (k : ℕ) (attrs : List Attr) (i : ℕ) (a : Attr) → NumberedFrom k attrs → slice_get attrs i ≡ Some a
+    → number_of a ≡ k + i
 unfolding NumberedFrom
 numbered_in k [] i a h e = absurd cc
 numbered_in k (b ∷ attrs) zero a h e = ap number_of (sym (some_is b a e)) ∙ (h.0 ∙ (omega arith))
@@ -62,8 +63,21 @@ numbered zero a e = absurd cc
 numbered (suc n) a e =
     let last : suc n - 1 ≡ n = omega arith in
     let same : attribute_numbered (suc n) ≡ slice_get all_attrs n =
-    ap (λ (b : Bool). if b then slice_get all_attrs (suc n - 1) else None) (at_least n) ∙ ap (λ i. slice_get all_attrs i) last in
-    numbered_in 1 all_attrs n a (refl, (refl, (refl, (refl, (refl, (refl, (refl, (refl, (refl, (refl, (refl, (refl, (refl, (refl, (refl, tt))))))))))))))) (sym same ∙ e) ∙ one
+    ap (λ (b : Bool). if b then slice_get all_attrs (suc n - 1) else None) (at_least n)
+    ∙ ap (λ i. slice_get all_attrs i) last in
+    numbered_in 1 all_attrs n a (
+      refl,
+      (
+        refl,
+        (
+          refl,
+          (
+            refl,
+            (refl, (refl, (refl, (refl, (refl, (refl, (refl, (refl, (refl, (refl, (refl, tt))))))))))),
+          ),
+        ),
+      ),
+    ) (sym same ∙ e) ∙ one
   where
     one : 1 + n ≡ suc n
     one = omega arith
@@ -105,7 +119,8 @@ Suits range value = (is_within range value ≡ true) × (is_named value ≡ true
 abbrev Taken : List ℕ → Range → AttrValue × List ℕ → Type 0
 Taken bytes range x = Takes bytes (attr_value_bytes x.0) x.1 × Suits range x.0
 
-chosen : {A : Type 0} (b : Bool) (x : A) (y : Option A) (z : A) → (if b then Some x else y) ≡ Some z → ((b ≡ true) × (x ≡ z)) ⊎ ((b ≡ false) × (y ≡ Some z))
+chosen : {A : Type 0} (b : Bool) (x : A) (y : Option A) (z : A) → (if b then Some x else y) ≡ Some z
+    → ((b ≡ true) × (x ≡ z)) ⊎ ((b ≡ false) × (y ≡ Some z))
 chosen true x y z e = inl (refl, some_is x z e)
 chosen false x y z e = inr (refl, e)
 
@@ -113,14 +128,16 @@ guarded : {A : Type 0} (b : Bool) (x z : A) → (if b then Some x else None) ≡
 guarded true x z e = (refl, some_is x z e)
 guarded false x z e = absurd cc
 
-word_taken : (words : ℕ) (bytes : List ℕ) (x : AttrValue × List ℕ) → IsBytes bytes → word_at words bytes ≡ Some x → Taken bytes (OneOf words) x
+word_taken : (words : ℕ) (bytes : List ℕ) (x : AttrValue × List ℕ) → IsBytes bytes → word_at words bytes ≡ Some x
+    → Taken bytes (OneOf words) x
 unfolding word_at
 word_taken words [] x is e = absurd cc
 word_taken words (place ∷ bytes) x is e =
     let g = guarded (nat_lt place words) (Word place, bytes) x e in
     subst (Taken (place ∷ bytes) (OneOf words)) g.1 (record { parts = refl; rest_fits = λ i. is (suc i) }, (g.0, refl))
 
-owner_taken : (bytes : List ℕ) (x : AttrValue × List ℕ) → IsBytes bytes → owner_at bytes ≡ Some x → Taken bytes NameOrEmpty x
+owner_taken : (bytes : List ℕ) (x : AttrValue × List ℕ) → IsBytes bytes → owner_at bytes ≡ Some x
+    → Taken bytes NameOrEmpty x
 unfolding owner_at
 owner_taken bytes x is e =
     let b = bind_some (text_at bytes) _ x e in
@@ -128,18 +145,21 @@ owner_taken bytes x is e =
     elim (chosen (length b.0.0 == 0) (Text None, b.0.1) _ x b.2) [
       | inl h ↦
           let empty : b.0.0 ≡ [] = nil_from_length b.0.0 (eqb-true (length b.0.0) 0 h.0) in
-          subst (Taken bytes NameOrEmpty) h.1 (subst (λ (w : List ℕ). Takes bytes (text_bytes w) b.0.1) empty t, (refl, refl))
+          subst (Taken bytes NameOrEmpty) h.1
+          (subst (λ (w : List ℕ). Takes bytes (text_bytes w) b.0.1) empty t, (refl, refl))
       | inr h ↦
           let g = guarded (is_name b.0.0) (Text (Some b.0.0), b.0.1) x h.1 in
           subst (Taken bytes NameOrEmpty) g.1 (t, (refl, g.0))
     ]
 
-value_taken : (range : Range) → IsSmall range → (bytes : List ℕ) (x : AttrValue × List ℕ) → IsBytes bytes → attr_value_at range bytes ≡ Some x → Taken bytes range x
+value_taken : (range : Range) → IsSmall range → (bytes : List ℕ) (x : AttrValue × List ℕ) → IsBytes bytes
+    → attr_value_at range bytes ≡ Some x → Taken bytes range x
 unfolding attr_value_at IsSmall
 value_taken (Between least most) small bytes x is e =
     let b = bind_some (number_within_at least most bytes) (λ n. Some (Whole n.0, n.1)) x e in
     let t = (number_within_codec least most small).takes bytes b.0.0 b.0.1 is b.1 in
-    subst (Taken bytes (Between least most)) (some_is (Whole b.0.0, b.0.1) x b.2) (t.0, (within b.0.0 t.1.0 t.1.1, refl))
+    subst (Taken bytes (Between least most)) (some_is (Whole b.0.0, b.0.1) x b.2)
+    (t.0, (within b.0.0 t.1.0 t.1.1, refl))
   where
     within : (n : ℕ) → least ≤ n → n ≤ most → (nat_le least n && nat_le n most) ≡ true
     within n h k = grind (arith, nat_tests)
@@ -160,14 +180,17 @@ name_some name h = grind (arith, nat_tests)
 short_name : (name : List ℕ) → is_name name ≡ true → length name < 2 ^ 32
 short_name name h = grind (arith, nat_tests)
 
-owner_again : (name : Option (List ℕ)) (rest : List ℕ) → is_named (Text name) ≡ true → owner_at (attr_value_bytes (Text name) ++ rest) ≡ Some (Text name, rest)
+owner_again : (name : Option (List ℕ)) (rest : List ℕ) → is_named (Text name) ≡ true
+    → owner_at (attr_value_bytes (Text name) ++ rest) ≡ Some (Text name, rest)
 unfolding owner_at
 owner_again None rest h = rw (text_codec.again [] rest (omega arith)) refl
 owner_again (Some name) rest h = rw (text_codec.again name rest (short_name name h), name_some name h, h) refl
 
-value_again : (range : Range) (value : AttrValue) (rest : List ℕ) → IsSmall range → Suits range value → attr_value_at range (attr_value_bytes value ++ rest) ≡ Some (value, rest)
+value_again : (range : Range) (value : AttrValue) (rest : List ℕ) → IsSmall range → Suits range value
+    → attr_value_at range (attr_value_bytes value ++ rest) ≡ Some (value, rest)
 unfolding attr_value_at IsSmall word_at
-value_again (Between least most) (Whole n) rest small h = rw ((number_within_codec least most small).again n rest (inside h.0)) refl
+value_again (Between least most) (Whole n) rest small h =
+    rw ((number_within_codec least most small).again n rest (inside h.0)) refl
   where
     inside : (nat_le least n && nat_le n most) ≡ true → (least ≤ n) × (n ≤ most)
     inside k = (grind (arith, nat_tests), grind (arith, nat_tests))
@@ -197,28 +220,37 @@ value_again NameOrEmpty (Word place) rest small h = absurd cc
 abbrev IsSetting : Setting → Type 0
 IsSetting s = Suits (range_of s.attr) s.value
 
-setting_takes : (bytes : List ℕ) (s : Setting) (rest : List ℕ) → IsBytes bytes → setting_at bytes ≡ Some (s, rest) → Takes bytes (setting_bytes s) rest × IsSetting s
+setting_takes : (bytes : List ℕ) (s : Setting) (rest : List ℕ) → IsBytes bytes → setting_at bytes ≡ Some (s, rest)
+    → Takes bytes (setting_bytes s) rest × IsSetting s
 unfolding setting_at
 setting_takes [] s rest is e = absurd cc
 setting_takes (n ∷ bytes) s rest is e =
-    let a = bind_some (attribute_numbered n) (λ attribute. attr_value_at (range_of attribute) bytes >>= λ value. Some (record { attr = attribute; value = value.0 }, value.1)) (s, rest) e in
-    let b = bind_some (attr_value_at (range_of a.0) bytes) (λ value. Some (record { attr = a.0; value = value.0 }, value.1)) (s, rest) a.2 in
+    let a = bind_some (attribute_numbered n)
+    (λ attribute. attr_value_at (range_of attribute) bytes >>= λ value. Some
+    (record { attr = attribute; value = value.0 }, value.1)) (s, rest) e in
+    let b = bind_some (attr_value_at (range_of a.0) bytes)
+    (λ value. Some (record { attr = a.0; value = value.0 }, value.1)) (s, rest) a.2 in
     let t = value_taken (range_of a.0) (are_small a.0) bytes b.0 (λ i. is (suc i)) b.1 in
-    let front = subst (λ (k : ℕ). Takes (n ∷ bytes) (k ∷ attr_value_bytes b.0.0) b.0.1) (sym (numbered n a.0 a.1)) (Takes-byte n bytes (attr_value_bytes b.0.0) b.0.1 t.0) in
-    subst (λ (x : Setting × List ℕ). Takes (n ∷ bytes) (setting_bytes x.0) x.1 × IsSetting x.0) (some_is (record { attr = a.0; value = b.0.0 }, b.0.1) (s, rest) b.2) (front, t.1)
+    let front = subst (λ (k : ℕ). Takes (n ∷ bytes) (k ∷ attr_value_bytes b.0.0) b.0.1) (sym (numbered n a.0 a.1))
+    (Takes-byte n bytes (attr_value_bytes b.0.0) b.0.1 t.0) in
+    subst (λ (x : Setting × List ℕ). Takes (n ∷ bytes) (setting_bytes x.0) x.1 × IsSetting x.0)
+    (some_is (record { attr = a.0; value = b.0.0 }, b.0.1) (s, rest) b.2) (front, t.1)
 
 setting_again : (s : Setting) (rest : List ℕ) → IsSetting s → setting_at (setting_bytes s ++ rest) ≡ Some (s, rest)
 unfolding setting_at
-setting_again s rest h = rw (numbered_again s.attr, value_again (range_of s.attr) s.value rest (are_small s.attr) h) refl
+setting_again s rest h =
+    rw (numbered_again s.attr, value_again (range_of s.attr) s.value rest (are_small s.attr) h) refl
 
 setting_codec : IsCodec IsSetting setting_bytes setting_at
 setting_codec = record { takes = setting_takes; again = setting_again }
 
-each_named : (settings : List Setting) → AllByRecursion IsSetting settings → list_all (λ s. is_named s.value) settings ≡ true
+each_named : (settings : List Setting) → AllByRecursion IsSetting settings
+    → list_all (λ s. is_named s.value) settings ≡ true
 each_named [] h = refl
 each_named (s ∷ settings) h = and_true _ _ h.0.1 (each_named settings h.1)
 
-each_suits : (settings : List Setting) → list_all (λ s. is_in_range s.attr s.value) settings ≡ true → list_all (λ s. is_named s.value) settings ≡ true → AllByRecursion IsSetting settings
+each_suits : (settings : List Setting) → list_all (λ s. is_in_range s.attr s.value) settings ≡ true
+    → list_all (λ s. is_named s.value) settings ≡ true → AllByRecursion IsSetting settings
 each_suits [] h k = tt
 each_suits (s ∷ settings) h k =
     let a = split_and (is_in_range s.attr s.value) (list_all (λ s. is_in_range s.attr s.value) settings) h in
@@ -228,11 +260,15 @@ each_suits (s ∷ settings) h k =
 pub settings_codec : IsCodec (λ s. are_attributes s ≡ true) settings_bytes settings_at
 unfolding settings_at
 settings_codec =
-    refit (λ s. AllByRecursion IsSetting s × (are_settings s ≡ true)) (λ s. are_attributes s ≡ true) settings_bytes settings_at
-    (tested_codec (λ s. AllByRecursion IsSetting s) settings_bytes (list_at setting_at) are_settings (list_codec IsSetting setting_bytes setting_at setting_codec))
+    refit (λ s. AllByRecursion IsSetting s × (are_settings s ≡ true)) (λ s. are_attributes s ≡ true) settings_bytes
+    settings_at
+    (tested_codec (λ s. AllByRecursion IsSetting s) settings_bytes (list_at setting_at) are_settings
+    (list_codec IsSetting setting_bytes setting_at setting_codec))
     (λ s h. and_true _ _ h.1 (each_named s h.0)) from
   where
     from : (s : List Setting) → are_attributes s ≡ true → AllByRecursion IsSetting s × (are_settings s ≡ true)
     from s h =
-        let both = split_and (are_settings s) (list_all (λ s. is_named s.value) s) h in
-        (each_suits s (split_and (list_all (λ s. is_in_range s.attr s.value) s) (rise_above 0 s) both.0).0 both.1, both.0)
+        let both = split_and (are_settings s) (list_all (λ s. is_named s.value) s) h in (
+          each_suits s (split_and (list_all (λ s. is_in_range s.attr s.value) s) (rise_above 0 s) both.0).0 both.1,
+          both.0,
+        )

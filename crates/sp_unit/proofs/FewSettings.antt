@@ -1,9 +1,9 @@
 -- Settings are at most as many as there are attributes.
-use Rattle.std.proofs.Common.{◌≡◌, ◌+◌, ◌<◌, ◌≤◌, ℕ, Bool, true, false, List, [], ◌∷◌, length, refl, arith, All, sym, ap, ◌∙◌}
+use Rattle.std.proofs.Common.{◌≡◌, ◌+◌, ◌<◌, ◌≤◌, ℕ, Bool, true, false, List, [], ◌∷◌, length, refl, arith, All}
 use Rattle.std.specs.Prelude.{◌&&◌, nat_lt}
 use Rattle.std.specs.List.{list_all, AllByRecursion}
 use Rattle.std.proofs.lemmas.Bool.{ltb-true}
-use Rattle.std.proofs.lemmas.List.Elements.{recursion_from_All, All-from_recursion}
+use Rattle.std.proofs.lemmas.List.Elements.{recursion_from_All}
 use Rattle.sp_config.specs.declared.attr.Attr.{Attr}
 use Rattle.sp_config.specs.declared.attr.Attr.TheVariants as attr
 use Rattle.sp_config.specs.declared.setting.Setting.{Setting}
@@ -44,14 +44,21 @@ few_above n (s ∷ settings) h k =
 
 pub few : (settings : List Setting) → are_settings settings ≡ true → length settings ≤ 15
 few settings h =
-    omega (arith, few_above 0 settings (omega arith) (split_and (list_all (λ s. is_in_range s.attr s.value) settings) (rise_above 0 settings) h).1)
+    omega (
+      arith,
+      few_above 0 settings (omega arith)
+          (split_and (list_all (λ s. is_in_range s.attr s.value) settings) (rise_above 0 settings) h).1,
+    )
 
 pub few_settings : (settings : List Setting) → are_settings settings ≡ true → length settings < 256
 few_settings settings h = omega (arith, few settings h)
 
-pub all_pass : (settings : List Setting) → AllByRecursion (λ s. is_named s.value ≡ true) settings → list_all (λ s. is_named s.value) settings ≡ true
+pub all_pass : (settings : List Setting) → AllByRecursion (λ s. is_named s.value ≡ true) settings
+    → list_all (λ s. is_named s.value) settings ≡ true
 all_pass [] h = refl
 all_pass (s ∷ settings) h = and_true _ _ h.0 (all_pass settings h.1)
 
-pub are_named : (settings : List Setting) → are_settings settings ≡ true → All (λ s. is_named s.value ≡ true) settings → are_attributes settings ≡ true
-are_named settings h each = and_true _ _ h (all_pass settings (recursion_from_All (λ s. is_named s.value ≡ true) settings each))
+pub are_named : (settings : List Setting) → are_settings settings ≡ true → All (λ s. is_named s.value ≡ true) settings
+    → are_attributes settings ≡ true
+are_named settings h each =
+    and_true _ _ h (all_pass settings (recursion_from_All (λ s. is_named s.value ≡ true) settings each))

@@ -1,6 +1,6 @@
 -- A unit that is read is the one that was written, and what was written is read again.
-use Rattle.std.proofs.Common.{◌≡◌, ◌∙◌, ◌+◌, ◌<◌, ◌≤◌, ◌^◌, ◌++◌, ℕ, zero, suc, Bool, true, false, cond, List, [], ◌∷◌, length, take, drop, Option, Some, None, refl, sym, ap, subst, arith, append_assoc, inl, inr, All}
-use Rattle.std.specs.Prelude.{◌&&◌, ◌==◌, if◌then◌else◌, nat_lt, nat_le, Result, Ok, Err, IfOk, IsErrOf}
+use Rattle.std.proofs.Common.{◌≡◌, ◌∙◌, ◌+◌, ◌≤◌, ◌++◌, ℕ, suc, Bool, true, false, List, [], ◌∷◌, length, take, drop, Option, Some, None, refl, sym, ap, subst, arith, append_assoc}
+use Rattle.std.specs.Prelude.{◌==◌, if◌then◌else◌, nat_lt, Result, Ok, Err, IfOk, IsErrOf}
 use Rattle.sp_message.specs.declared.codec.ReadError.{ReadError}
 use Rattle.sp_message.specs.declared.codec.ReadError.TheVariants.{NotOne}
 use Rattle.sp_message.proofs.OneByOne.{not_one}
@@ -10,8 +10,7 @@ use Rattle.std.proofs.lemmas.Bool.Decides.{nat_tests}
 use Rattle.std.proofs.lemmas.List.{append-nil, nil_from_length, take_at, drop_at, take-append-drop, length-append, length-take, get_or-drop}
 use Rattle.std.proofs.lemmas.List.Elements.{recursion_from_All, All-from_recursion}
 use Rattle.sp_base.specs.Name.{is_caller, is_name}
-use Rattle.sp_event.specs.declared.request.Event.{Event}
-use Rattle.sp_message.specs.Decoding.{◌>>=◌, Gives, byte_at, list_at, number_within_at}
+use Rattle.sp_message.specs.Decoding.{◌>>=◌, Gives, list_at, number_within_at}
 use Rattle.sp_message.specs.Encoding.{list_bytes, number_bytes}
 use Rattle.sp_message.proofs.Codecs.{IsBytes, IsCodec, Takes, Takes-byte, Takes-then, bind_some, list_codec, number_within_codec, some_is}
 use Rattle.sp_unit.specs.UnitBytes.{IsEvent, IsUnit, KeepsUnitRules, UnitView, event_bytes, is_caller_name, unit_bytes}
@@ -32,7 +31,8 @@ guarded : {A : Type 0} (b : Bool) (x z : A) → (if b then Some x else None) ≡
 guarded true x z e = (refl, some_is x z e)
 guarded false x z e = absurd cc
 
-unless_long : {A : Type 0} (b : Bool) (x : Option A) (z : A) → (if b then None else x) ≡ Some z → (b ≡ false) × (x ≡ Some z)
+unless_long : {A : Type 0} (b : Bool) (x : Option A) (z : A) → (if b then None else x) ≡ Some z → (b ≡ false)
+    × (x ≡ Some z)
 unless_long true x z e = absurd cc
 unless_long false x z e = (refl, e)
 
@@ -40,21 +40,26 @@ named_is : (text : List ℕ) (name : List ℕ) → named text ≡ Some name → 
 unfolding named
 named_is text name e = guarded (is_name text) text name e
 
-caller_takes : (bytes : List ℕ) (x : List ℕ) (rest : List ℕ) → IsBytes bytes → caller_at bytes ≡ Some (x, rest) → Takes bytes (caller_bytes x) rest × (is_caller_name x ≡ true)
+caller_takes : (bytes : List ℕ) (x : List ℕ) (rest : List ℕ) → IsBytes bytes → caller_at bytes ≡ Some (x, rest)
+    → Takes bytes (caller_bytes x) rest × (is_caller_name x ≡ true)
 unfolding caller_at
 caller_takes [] x rest is e = absurd cc
 caller_takes (n ∷ bytes) x rest is e =
     let text = take n bytes in
-    let a = unless_long (nat_lt (length bytes) n) (named text >>= λ name. if is_caller name then Some (name, drop n bytes) else None) (x, rest) e in
+    let a = unless_long (nat_lt (length bytes) n)
+    (named text >>= λ name. if is_caller name then Some (name, drop n bytes) else None) (x, rest) e in
     let b = bind_some (named text) (λ name. if is_caller name then Some (name, drop n bytes) else None) (x, rest) a.1 in
     let c = guarded (is_caller b.0) (b.0, drop n bytes) (x, rest) b.2 in
     let d = named_is text b.0 b.1 in
     let long : n ≤ length bytes = ltb-false _ _ a.0 in
     let len : length text ≡ n = omega (arith, length-take n bytes) in
-    let front : Takes bytes text (drop n bytes) = record { parts = sym (take-append-drop n bytes); rest_fits = IsBytes-drop n bytes (λ i. is (suc i)) } in
-    let whole = subst (λ (k : ℕ). Takes (n ∷ bytes) (k ∷ text) (drop n bytes)) (sym len) (Takes-byte n bytes text (drop n bytes) front) in
+    let front : Takes bytes text (drop n bytes) =
+    record { parts = sym (take-append-drop n bytes); rest_fits = IsBytes-drop n bytes (λ i. is (suc i)) } in
+    let whole = subst (λ (k : ℕ). Takes (n ∷ bytes) (k ∷ text) (drop n bytes)) (sym len)
+    (Takes-byte n bytes text (drop n bytes) front) in
     let valid : is_caller_name b.0 ≡ true = and_true _ _ (subst (λ (t : List ℕ). is_name t ≡ true) d.1 d.0) c.0 in
-    subst (λ (y : List ℕ × List ℕ). Takes (n ∷ bytes) (caller_bytes y.0) y.1 × (is_caller_name y.0 ≡ true)) c.1 (subst (λ (t : List ℕ). Takes (n ∷ bytes) (caller_bytes t) (drop n bytes)) d.1 whole, valid)
+    subst (λ (y : List ℕ × List ℕ). Takes (n ∷ bytes) (caller_bytes y.0) y.1 × (is_caller_name y.0 ≡ true)) c.1
+    (subst (λ (t : List ℕ). Takes (n ∷ bytes) (caller_bytes t) (drop n bytes)) d.1 whole, valid)
 
 named_as : (name : List ℕ) → is_name name ≡ true → named name ≡ Some name
 unfolding named
@@ -65,7 +70,8 @@ unfolding caller_at
 caller_again x rest h =
     let both = split_and (is_name x) (is_caller x) h in
     let long : nat_lt (length (x ++ rest)) (length x) ≡ false = le-ltb _ _ (omega (arith, length-append x rest)) in
-    rw (long, take_at x rest (length x) refl, drop_at x rest (length x) refl, named_as x both.0) (ap (λ (b : Bool). if b then Some (x, rest) else None) both.1)
+    rw (long, take_at x rest (length x) refl, drop_at x rest (length x) refl, named_as x both.0)
+    (ap (λ (b : Bool). if b then Some (x, rest) else None) both.1)
 
 caller_codec : IsCodec (λ x. is_caller_name x ≡ true) caller_bytes caller_at
 caller_codec = record { takes = caller_takes; again = caller_again }
@@ -80,7 +86,8 @@ pub unit_codec : IsCodec KeepsUnitRules unit_bytes unit_at
 unfolding unit_at
 unit_codec = record { takes = takes; again = again }
   where
-    takes : (bytes : List ℕ) (u : UnitView) (rest : List ℕ) → IsBytes bytes → unit_at bytes ≡ Some (u, rest) → Takes bytes (unit_bytes u) rest × KeepsUnitRules u
+    takes : (bytes : List ℕ) (u : UnitView) (rest : List ℕ) → IsBytes bytes → unit_at bytes ≡ Some (u, rest)
+        → Takes bytes (unit_bytes u) rest × KeepsUnitRules u
     takes bytes u rest is e =
         let a = bind_some (number_within_at 0 9007199254740991 bytes) _ (u, rest) e in
         let b = bind_some (caller_at a.0.1) _ (u, rest) a.2 in
@@ -91,8 +98,16 @@ unit_codec = record { takes = takes; again = again }
         let tb = caller_codec.takes a.0.1 b.0.0 b.0.1 ta.0.rest_fits b.1 in
         let tc = events_codec.takes b.0.1 c.0.0 c.0.1 tb.0.rest_fits c.1 in
         let last = Takes-then a.0.1 (caller_bytes b.0.0) b.0.1 (list_bytes event_bytes c.0.0) c.0.1 tb.0 tc.0 in
-        let whole = Takes-then bytes (number_bytes a.0.0) a.0.1 (caller_bytes b.0.0 ++ list_bytes event_bytes c.0.0) c.0.1 ta.0 last in
-        let rules : KeepsUnitRules read = record { moment = ta.1.1; caller = tb.1; one = eqb-true (length c.0.0) 1 g.0; events = All-from_recursion IsEvent c.0.0 tc.1 } in
+        let whole = Takes-then bytes (number_bytes a.0.0) a.0.1 (caller_bytes b.0.0 ++ list_bytes event_bytes c.0.0)
+        c.0.1 ta.0 last in
+        let rules : KeepsUnitRules read =
+        record {
+          moment = ta.1.1;
+          caller = tb.1;
+          one = eqb-true (length c.0.0) 1 g.0;
+          events =
+              All-from_recursion IsEvent c.0.0 tc.1;
+        } in
         subst (λ (x : UnitView × List ℕ). Takes bytes (unit_bytes x.0) x.1 × KeepsUnitRules x.0) g.1 (whole, rules)
 
     three : (a b c rest : List ℕ) → (a ++ (b ++ c)) ++ rest ≡ a ++ (b ++ (c ++ rest))
@@ -102,7 +117,11 @@ unit_codec = record { takes = takes; again = again }
     again u rest h =
         let events = list_bytes event_bytes u.events ++ rest in
         ap unit_at (three (number_bytes u.moment) (caller_bytes u.caller) (list_bytes event_bytes u.events) rest)
-        ∙ rw (moment_codec.again u.moment (caller_bytes u.caller ++ events) (omega arith, h.moment), caller_codec.again u.caller events h.caller, events_codec.again u.events rest (recursion_from_All IsEvent u.events h.events))
+        ∙ rw (
+          moment_codec.again u.moment (caller_bytes u.caller ++ events) (omega arith, h.moment),
+          caller_codec.again u.caller events h.caller,
+          events_codec.again u.events rest (recursion_from_All IsEvent u.events h.events),
+        )
         (ap (λ (b : Bool). if b then Some (u, rest) else None) (one_is (length u.events) h.one))
 
 -- ---- the whole of the bytes
@@ -114,7 +133,11 @@ found bytes u is e =
     let g = guarded (length a.0.1 == 0) a.0.0 u a.2 in
     let t = unit_codec.takes bytes a.0.0 a.0.1 is a.1 in
     let empty : a.0.1 ≡ [] = nil_from_length a.0.1 (eqb-true (length a.0.1) 0 g.0) in
-    subst (IsUnit bytes) g.1 (t.1, t.0.parts ∙ (ap (λ (w : List ℕ). unit_bytes a.0.0 ++ w) empty ∙ append-nil (unit_bytes a.0.0)))
+    subst (IsUnit bytes) g.1 (
+      t.1,
+      t.0.parts
+          ∙ (ap (λ (w : List ℕ). unit_bytes a.0.0 ++ w) empty ∙ append-nil (unit_bytes a.0.0)),
+    )
 
 pub again : (bytes : List ℕ) (u : UnitView) → IsUnit bytes u → whole_unit bytes ≡ Some u
 unfolding whole_unit
@@ -135,10 +158,12 @@ pub one_unit : (bytes : List ℕ) (u v : UnitView) → IsUnit bytes u → IsUnit
 one_unit bytes u v h k = some_is u v (sym (again bytes u h) ∙ again bytes v k)
 
 -- what an answer says of the bytes
-pub told : (bytes : List ℕ) (r : Result UnitView ReadError) → IsBytes bytes → Gives (λ u. u) r (whole_unit bytes) → IfOk r (λ u. IsUnit bytes u)
+pub told : (bytes : List ℕ) (r : Result UnitView ReadError) → IsBytes bytes → Gives (λ u. u) r (whole_unit bytes)
+    → IfOk r (λ u. IsUnit bytes u)
 told bytes (Ok u) is h = found bytes u is h
 told bytes (Err e) is h = tt
 
-pub refused : (bytes : List ℕ) (r : Result UnitView ReadError) → Gives (λ u. u) r (whole_unit bytes) → IsErrOf r NotOne → (u : UnitView) → IsUnit bytes u → ⊥
+pub refused : (bytes : List ℕ) (r : Result UnitView ReadError) → Gives (λ u. u) r (whole_unit bytes) → IsErrOf r NotOne
+    → (u : UnitView) → IsUnit bytes u → ⊥
 refused bytes (Ok v) h is u k = absurd cc
 refused bytes (Err e) h is u k = none_is bytes u (not_one e (whole_unit bytes) is h) k

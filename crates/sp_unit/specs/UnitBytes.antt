@@ -1,5 +1,5 @@
 -- The bytes of a unit. Numbers, texts, truth values, options, lists and messages are as everywhere.
-use Rattle.std.specs.Prelude.{◌≡◌, ◌≤◌, ◌++◌, ◌&&◌, ℕ, Bool, true, List, [], ◌∷◌, length, Option, Some, None, IfSome, All}
+use Rattle.std.specs.Prelude.{◌≡◌, ◌≤◌, ◌++◌, ◌&&◌, ℕ, Bool, true, List, [], ◌∷◌, length, Some, None, IfSome, All}
 use Rattle.std.specs.List.{list_all}
 use Rattle.std.specs.Option.{is_none}
 use Rattle.sp_base.specs.Name.{is_caller, is_name}
@@ -46,7 +46,8 @@ settings_bytes settings = list_bytes setting_bytes settings
 
 -- a tag, and the fields in their order
 abbrev pub event_bytes : Event → List ℕ
-event_bytes (event.Provision endpoint kind attributes) = 1 ∷ (text_bytes endpoint ++ (kind_byte kind ∷ settings_bytes attributes))
+event_bytes (event.Provision endpoint kind attributes) =
+    1 ∷ (text_bytes endpoint ++ (kind_byte kind ∷ settings_bytes attributes))
 event_bytes (event.Deprovision endpoint) = 2 ∷ text_bytes endpoint
 event_bytes (event.Change endpoint attributes) = 3 ∷ (text_bytes endpoint ++ settings_bytes attributes)
 event_bytes (event.Subscribe endpoint subscription) = 4 ∷ (text_bytes endpoint ++ text_bytes subscription)
@@ -56,7 +57,8 @@ event_bytes (event.Bind endpoint selector topic) =
     7 ∷ (text_bytes endpoint ++ (option_bytes text_bytes selector ++ option_bytes text_bytes topic))
 event_bytes (event.Unbind flow) = 8 ∷ number_bytes flow
 event_bytes (event.Pull flow count) = 9 ∷ (number_bytes flow ++ number_bytes count)
-event_bytes (event.Settle flow copy outcome) = 10 ∷ (number_bytes flow ++ (number_bytes copy ++ (outcome_byte outcome ∷ [])))
+event_bytes (event.Settle flow copy outcome) =
+    10 ∷ (number_bytes flow ++ (number_bytes copy ++ (outcome_byte outcome ∷ [])))
 event_bytes event.Tick = 11 ∷ []
 event_bytes (event.DeleteCopies endpoint copy) = 12 ∷ (text_bytes endpoint ++ option_bytes number_bytes copy)
 
@@ -88,12 +90,14 @@ IsEvent (event.Subscribe endpoint subscription) = (is_name endpoint ≡ true) ×
 IsEvent (event.Unsubscribe endpoint subscription) = (is_name endpoint ≡ true) × (is_subscription subscription ≡ true)
 IsEvent (event.Publish message) = KeepsRules message
 IsEvent (event.Bind endpoint selector topic) =
-    (is_name endpoint ≡ true) × IfSome selector (λ text. is_selector text ≡ true) × IfSome topic (λ text. is_subscription text ≡ true)
+    (is_name endpoint ≡ true) × IfSome selector (λ text. is_selector text ≡ true)
+    × IfSome topic (λ text. is_subscription text ≡ true)
 IsEvent (event.Unbind flow) = flow ≤ greatest_number
 IsEvent (event.Pull flow count) = (flow ≤ greatest_number) × (1 ≤ count) × (count ≤ 64)
 IsEvent (event.Settle flow copy outcome) = (flow ≤ greatest_number) × (copy ≤ greatest_number)
 IsEvent event.Tick = Unit {0}
-IsEvent (event.DeleteCopies endpoint copy) = (is_name endpoint ≡ true) × IfSome copy (λ number. number ≤ greatest_number)
+IsEvent (event.DeleteCopies endpoint copy) = (is_name endpoint ≡ true)
+    × IfSome copy (λ number. number ≤ greatest_number)
 
 -- what a unit has: the moment and the caller of a request, and its events
 pub record UnitView : Type 0 where

@@ -1,5 +1,5 @@
 -- How a unit is read.
-use Rattle.std.specs.Prelude.{◌≡◌, ◌==◌, ◌-◌, ◌&&◌, ℕ, zero, suc, Bool, List, [], ◌∷◌, length, take, drop, nat_le, nat_lt, slice_get, Option, Some, None, if◌then◌else◌}
+use Rattle.std.specs.Prelude.{◌==◌, ◌-◌, ℕ, zero, suc, List, [], ◌∷◌, length, take, drop, nat_le, nat_lt, slice_get, Option, Some, None, if◌then◌else◌}
 use Rattle.sp_base.specs.Name.{is_caller, is_name}
 use Rattle.sp_config.specs.declared.attr.Attr.{Attr}
 use Rattle.sp_config.specs.declared.kind.EndpointKind.{EndpointKind}
@@ -41,7 +41,8 @@ attribute_numbered n = if nat_le 1 n then slice_get all_attrs (n - 1) else None
 unfoldable pub owner_at : List ℕ → Option (AttrValue × List ℕ)
 owner_at bytes = do
   text ← text_at bytes
-  if length text.0 == 0 then Some (Text None, text.1) else (if is_name text.0 then Some (Text (Some text.0), text.1) else None)
+  if length text.0 == 0 then Some
+      (Text None, text.1) else (if is_name text.0 then Some (Text (Some text.0), text.1) else None)
 
 unfoldable pub word_at : ℕ → List ℕ → Option (AttrValue × List ℕ)
 word_at words bytes = do
@@ -184,14 +185,16 @@ named text = if is_name text then Some text else None
 unfoldable pub caller_at : List ℕ → Option (List ℕ × List ℕ)
 caller_at bytes = do
   n ← byte_at bytes
-  if nat_lt (length n.1) n.0 then None else named (take n.0 n.1) >>= λ name. if is_caller name then Some (name, drop n.0 n.1) else None
+  if nat_lt (length n.1) n.0 then None else named (take n.0 n.1) >>= λ name. if is_caller name then Some
+      (name, drop n.0 n.1) else None
 
 unfoldable pub unit_at : List ℕ → Option (UnitView × List ℕ)
 unit_at bytes = do
   moment ← number_within_at 0 9007199254740991 bytes
   caller ← caller_at moment.1
   events ← list_at event_at caller.1
-  if length events.0 == 1 then Some (record { moment = moment.0; caller = caller.0; events = events.0 }, events.1) else None
+  if length events.0 == 1 then Some
+      (record { moment = moment.0; caller = caller.0; events = events.0 }, events.1) else None
 
 -- the unit that the whole of the bytes is
 unfoldable pub whole_unit : List ℕ → Option UnitView

@@ -9,8 +9,9 @@ pub fn each_unit_has_one_spelling()
     ensures unit { (bytes : List ℕ) (u v : UnitView) → IsUnit bytes u → IsUnit bytes v → u ≡ v }
 {}
 
-/// A unit has at most 16,777,216 bytes.
-#[tactic(auto, using(crate::proofs::Lengths::unit_len))]
+/// A unit has at least 1 and at most 16,777,216 bytes.
+#[tactic(auto, using(crate::proofs::Lengths::unit_some, crate::proofs::Lengths::unit_len))]
 pub fn each_unit_is_short()
-    ensures { (bytes : List ℕ) (u : UnitView) → IsUnit bytes u → length bytes ≤ 16777216 }
+    ensures least { (bytes : List ℕ) (u : UnitView) → IsUnit bytes u → 1 ≤ length bytes }
+    ensures most { (bytes : List ℕ) (u : UnitView) → IsUnit bytes u → length bytes ≤ 16777216 }
 {}

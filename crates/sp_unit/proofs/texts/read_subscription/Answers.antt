@@ -11,5 +11,6 @@ pub returns-in-Err-Bad : goal.returns-in-Err-Bad
 unfolding subscription_at text_that_at
 returns-in-Err-Bad c =
     let text = c.in_ok-text.text.now in
-    let bad : is_none (subscription_fault text) ≡ false = ap is_none ((c.read.ensures.bad c.in-Err-Bad.field-0-0).0 (search rules)) in
+    let bad : is_none (subscription_fault text) ≡ false =
+    ap is_none ((c.read.ensures.bad c.in-Err-Bad.field-0-0).0 (search rules)) in
     refused is_subscription c.args.bytes.now text c.in_ok-text.rest.now c.in_ok-text.ensures bad
