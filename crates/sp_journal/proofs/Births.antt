@@ -52,7 +52,8 @@ blank_torn (b ∷ old) new blank torn =
     (omega (arith, blank.0, torn.no_longer), torn_front 1 13 (b ∷ old) new (omega arith) torn ∙ blank.1)
 
 pub blank_keeps : (old new : List ℕ) → IsBlank old → Torn 1 13 old new → KeepsUnits old new
-blank_keeps old new blank torn = inr (blank_unborn old blank, inl (refl, blank_unborn new (blank_torn old new blank torn)))
+blank_keeps old new blank torn =
+    inr (blank_unborn old blank, inl (refl, blank_unborn new (blank_torn old new blank torn)))
 
 pub blank_written : (old new : List ℕ) → IsBlank old → new ≡ written old 1 (heading ++ 0 ∷ []) → IsNamed new
 blank_written [] new blank done = absurd (cc (blank.1))
@@ -71,7 +72,7 @@ module _ (gate : ℕ) (file : List ℕ) (is : file ≡ gate ∷ (heading ++ 0 �
   born_empty shown = record {
     front = gate ∷ heading;
     behind = [];
-    is_front = record { birth = gate; units = []; born = shown; bytes = refl; are_units = refl };
+    is_front = record { birth = gate; tail = []; born = shown; bytes = refl; are_units = refl };
     is_place = refl;
     bytes = is;
   }
@@ -93,4 +94,5 @@ named_keeps old new named torn = inr (not_born 0 old named refl, named_units old
 pub named_written : (old new : List ℕ) → IsNamed old → new ≡ written old 0 (1 ∷ []) → EndsAt [] 13 new
 named_written old new named done =
     born_empty 1 new
-    (done ∙ ap (λ (l : List ℕ). written l 0 (1 ∷ [])) named ∙ written_byte [] 0 (heading ++ 0 ∷ []) 0 refl 1) (λ is. (cc))
+    (done ∙ ap (λ (l : List ℕ). written l 0 (1 ∷ [])) named ∙ written_byte [] 0 (heading ++ 0 ∷ []) 0 refl 1)
+    (λ is. (cc))

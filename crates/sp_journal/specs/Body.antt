@@ -1,6 +1,7 @@
 -- What a unit's body is.
-use Rattle.std.specs.Prelude.{ℕ, ◌≤◌, List, length}
+use Rattle.std.specs.Prelude.{ℕ, List}
+use Rattle.sp_unit.specs.UnitBytes.{IsUnit, UnitView}
 
--- 1 to 16,777,216 bytes
+-- the bytes of some unit
 abbrev pub IsBody : List ℕ → Type 0
-IsBody bytes = (1 ≤ length bytes) × (length bytes ≤ 16777216)
+IsBody bytes = (unit : UnitView) × IsUnit bytes unit

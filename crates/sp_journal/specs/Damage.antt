@@ -1,7 +1,7 @@
 -- Which bytes are no journal of this version, and from where on.
 use Rattle.std.specs.Prelude.{◌≡◌, ◌≢◌, ◌⊎◌, ℕ, ◌<◌, ◌≤◌, List, ◌∷◌, ◌++◌, length, take, drop, codes}
 use Rattle.std.specs.Int.{w32, from_le_bytes}
-use Rattle.sp_journal.specs.Body.{IsBody}
+use Rattle.sp_unit.specs.UnitBytes.{KeepsUnitRules, UnitView, unit_bytes}
 use Rattle.sp_journal.specs.Closing.{IsClosedAt}
 use Rattle.sp_journal.specs.Format.{framed, IsFront}
 
@@ -17,17 +17,18 @@ HasName file = take 8 (drop 1 file) ≡ codes "spooljnl"
 abbrev pub version_of : List ℕ → ℕ
 version_of file = from_le_bytes w32 (take 4 (drop 9 file))
 
--- a body behind its length, and a gate behind it
+-- a unit's bytes behind their length, and a gate behind them
 abbrev pub BeginsWithUnit : List ℕ → Type 0
 BeginsWithUnit bytes =
-    (body : List ℕ) × (gate : ℕ) × (behind : List ℕ) × IsBody body × (bytes ≡ framed body ++ gate ∷ behind)
+    (unit : UnitView) × (gate : ℕ) × (behind : List ℕ) × KeepsUnitRules unit
+    × (bytes ≡ framed (unit_bytes unit) ++ gate ∷ behind)
 
 -- behind these units a gate is open, and no unit follows
-pub record StopsAt (bodies : List (List ℕ)) (place : ℕ) (file : List ℕ) : Type 0 where
+pub record StopsAt (units : List UnitView) (place : ℕ) (file : List ℕ) : Type 0 where
   pub front : List ℕ
   pub gate : ℕ
   pub behind : List ℕ
-  pub is_front : IsFront bodies front
+  pub is_front : IsFront units front
   pub is_place : length front ≡ place
   pub shown : gate ≢ 0
   pub bytes : file ≡ front ++ gate ∷ behind
@@ -38,7 +39,7 @@ pub record StopsAt (bodies : List (List ℕ)) (place : ℕ) (file : List ℕ) : 
 abbrev pub IsDamaged : ℕ → List ℕ → Type 0
 IsDamaged at file =
     ((at ≡ 0) × (14 < length file) × IsClosedAt 0 file)
-    ⊎ (((at ≡ 1) × IsBorn file × (¬ HasName file)) ⊎ ((bodies : List (List ℕ)) × StopsAt bodies at file))
+    ⊎ (((at ≡ 1) × IsBorn file × (¬ HasName file)) ⊎ ((units : List UnitView) × StopsAt units at file))
 
 -- a journal of another version
 abbrev pub IsOtherVersion : ℕ → List ℕ → Type 0

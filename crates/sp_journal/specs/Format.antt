@@ -1,7 +1,7 @@
 -- What a journal's bytes are, version 1.
 use Rattle.std.specs.Prelude.{◌≡◌, ◌≢◌, ◌⊎◌, ℕ, ◌<◌, List, [], ◌∷◌, ◌++◌, length, take, codes}
 use Rattle.std.specs.Int.{w32, to_le_bytes}
-use Rattle.sp_journal.specs.Body.{IsBody}
+use Rattle.sp_unit.specs.UnitBytes.{KeepsUnitRules, UnitView, unit_bytes}
 
 -- what stands between the birth gate and the first unit's gate: a name, and the version in four bytes
 abbrev pub heading : List ℕ
@@ -12,33 +12,35 @@ abbrev pub framed : List ℕ → List ℕ
 framed body = to_le_bytes w32 (length body) ++ body
 
 -- units one after the other, each behind an open gate: every byte but 0x00 is one
-abbrev pub AreUnits : List (List ℕ) → List ℕ → Type 0
+abbrev pub AreUnits : List UnitView → List ℕ → Type 0
 AreUnits [] bytes = bytes ≡ []
-AreUnits (body ∷ bodies) bytes =
-    (gate : ℕ) × (rest : List ℕ) × (gate ≢ 0) × IsBody body × (bytes ≡ gate ∷ (framed body ++ rest)) × AreUnits bodies rest
+AreUnits (unit ∷ units) bytes =
+    (gate : ℕ) × (rest : List ℕ) × (gate ≢ 0) × KeepsUnitRules unit
+    × (bytes ≡ gate ∷ (framed (unit_bytes unit) ++ rest))
+    × AreUnits units rest
 
 -- an open birth gate, the heading and these units: all that stands before a gate
-pub record IsFront (bodies : List (List ℕ)) (front : List ℕ) : Type 0 where
+pub record IsFront (units : List UnitView) (front : List ℕ) : Type 0 where
   pub birth : ℕ
-  pub units : List ℕ
+  pub tail : List ℕ
   pub born : birth ≢ 0
-  pub bytes : front ≡ birth ∷ (heading ++ units)
-  pub are_units : AreUnits bodies units
+  pub bytes : front ≡ birth ∷ (heading ++ tail)
+  pub are_units : AreUnits units tail
 
 -- these units stand before a place, and there a gate
-pub record ComesTo (bodies : List (List ℕ)) (place : ℕ) (file : List ℕ) : Type 0 where
+pub record ComesTo (units : List UnitView) (place : ℕ) (file : List ℕ) : Type 0 where
   pub front : List ℕ
   pub gate : ℕ
   pub behind : List ℕ
-  pub is_front : IsFront bodies front
+  pub is_front : IsFront units front
   pub is_place : length front ≡ place
   pub bytes : file ≡ front ++ gate ∷ behind
 
 -- these units end at a place: there stands the first closed gate, and behind it anything
-pub record EndsAt (bodies : List (List ℕ)) (place : ℕ) (file : List ℕ) : Type 0 where
+pub record EndsAt (units : List UnitView) (place : ℕ) (file : List ℕ) : Type 0 where
   pub front : List ℕ
   pub behind : List ℕ
-  pub is_front : IsFront bodies front
+  pub is_front : IsFront units front
   pub is_place : length front ≡ place
   pub bytes : file ≡ front ++ 0 ∷ behind
 
@@ -47,10 +49,10 @@ abbrev pub IsUnborn : List ℕ → Type 0
 IsUnborn file = (length file < 14) ⊎ ((length file ≡ 14) × (take 1 file ≡ 0 ∷ []))
 
 -- the units of a file: those up to the first closed gate, and none where it isn't born
-abbrev pub HasUnits : List (List ℕ) → List ℕ → Type 0
-HasUnits bodies file = ((bodies ≡ []) × IsUnborn file) ⊎ ((place : ℕ) × EndsAt bodies place file)
+abbrev pub HasUnits : List UnitView → List ℕ → Type 0
+HasUnits units file = ((units ≡ []) × IsUnborn file) ⊎ ((place : ℕ) × EndsAt units place file)
 
--- what is written behind a gate for a unit: the body behind its length, and the next gate, closed
-pub record IsPiece (body piece : List ℕ) : Type 0 where
-  pub is_body : IsBody body
-  pub bytes : piece ≡ framed body ++ 0 ∷ []
+-- what is written behind a gate for a unit: its bytes behind their length, and the next gate, closed
+pub record IsPiece (unit : UnitView) (piece : List ℕ) : Type 0 where
+  pub keeps : KeepsUnitRules unit
+  pub bytes : piece ≡ framed (unit_bytes unit) ++ 0 ∷ []

@@ -3,6 +3,7 @@ use Rattle.std.specs.Prelude.{◌≡◌, ◌⊎◌, ℕ, List, Option, Some, Non
 use Rattle.sp_disk.specs.Disk.{Folder, Telling}
 use Rattle.sp_disk.specs.Everywhere.{Everywhere}
 use Rattle.sp_disk.specs.declared.disk.File.TheVariants.{Journal as JournalFile}
+use Rattle.sp_unit.specs.UnitBytes.{UnitView}
 use Rattle.sp_journal.specs.Format.{EndsAt, IsUnborn}
 use Rattle.sp_journal.specs.Unsure.{IsUnsure}
 use Rattle.sp_journal.specs.declared.journal.Journal.{Journal}
@@ -19,22 +20,24 @@ IsNotBorn journal = journal.state ≡ NotBorn
 -- what a look found of a file: that it is unborn, or where its units end
 abbrev pub IsLookOf : List ℕ → Journal → Type 0
 IsLookOf file journal =
-    (IsNotBorn journal × IsUnborn file) ⊎ ((bodies : List (List ℕ)) × (¬ IsNotBorn journal) × EndsAt bodies (place_of journal) file)
+    (IsNotBorn journal × IsUnborn file)
+    ⊎ ((units : List UnitView) × (¬ IsNotBorn journal) × EndsAt units (place_of journal) file)
 
 -- it was opened and no gate is unsure: these units end at its place, as a read gives them and in every image
 pub record Rests {D : Type 0} (tells : D → Telling) (content : D → Folder) (may_leave : D → Folder → Type 0)
-    (bodies : List (List ℕ)) (journal : Journal) (disk : D) : Type 0 where
+    (units : List UnitView) (journal : Journal) (disk : D) : Type 0 where
   pub sure : journal.state ≡ Settled
-  pub ends : Everywhere tells content may_leave JournalFile disk (EndsAt bodies (place_of journal))
+  pub ends : Everywhere tells content may_leave JournalFile disk (EndsAt units (place_of journal))
 
 -- the gate at its place is unsure: a read and every image give these units, or these and one more
 pub record Doubts {D : Type 0} (tells : D → Telling) (content : D → Folder) (may_leave : D → Folder → Type 0)
-    (bodies : List (List ℕ)) (body : List ℕ) (journal : Journal) (disk : D) : Type 0 where
+    (units : List UnitView) (unit : UnitView) (journal : Journal) (disk : D) : Type 0 where
   pub unsure : journal.state ≡ Unsure
-  pub gate : Everywhere tells content may_leave JournalFile disk (IsUnsure bodies body (place_of journal))
+  pub gate : Everywhere tells content may_leave JournalFile disk (IsUnsure units unit (place_of journal))
 
 -- it was opened and stands for these units, and where a gate is unsure for one more that may be there
-abbrev pub StandsFor : {D : Type 0} → (D → Telling) → (D → Folder) → (D → Folder → Type 0) → Option (List ℕ)
-    → List (List ℕ) → Journal → D → Type 0
-StandsFor tells content may_leave None bodies journal disk = Rests tells content may_leave bodies journal disk
-StandsFor tells content may_leave (Some body) bodies journal disk = Doubts tells content may_leave bodies body journal disk
+abbrev pub StandsFor : {D : Type 0} → (D → Telling) → (D → Folder) → (D → Folder → Type 0) → Option UnitView
+    → List UnitView → Journal → D → Type 0
+StandsFor tells content may_leave None units journal disk = Rests tells content may_leave units journal disk
+StandsFor tells content may_leave (Some unit) units journal disk =
+    Doubts tells content may_leave units unit journal disk

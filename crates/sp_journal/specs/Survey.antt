@@ -1,5 +1,6 @@
 -- What is found in a journal's bytes.
 use Rattle.std.specs.Prelude.{◌≡◌, ◌≢◌, ℕ, ◌≤◌, ◌+◌, List, [], ◌∷◌, ◌++◌, length, take, Option, Some, None}
+use Rattle.sp_unit.specs.UnitBytes.{IsUnit, UnitView}
 use Rattle.sp_journal.specs.Body.{IsBody}
 use Rattle.sp_journal.specs.Format.{framed, IsUnborn, ComesTo, EndsAt}
 use Rattle.sp_journal.specs.Damage.{IsDamaged, IsOtherVersion, BeginsWithUnit}
@@ -11,7 +12,7 @@ use Rattle.sp_journal.specs.declared.survey.Gate.TheVariants.{Closed, Whole, Bro
 -- what was found of a file is so
 abbrev pub IsSo : Survey → List ℕ → Type 0
 IsSo Unborn file = IsUnborn file
-IsSo (Ends place) file = (bodies : List (List ℕ)) × EndsAt bodies place file
+IsSo (Ends place) file = (units : List UnitView) × EndsAt units place file
 IsSo (Damaged at) file = IsDamaged at file
 IsSo (OtherVersion found) file = IsOtherVersion found file
 
@@ -40,7 +41,8 @@ GateIs (Whole n) body bytes =
     × (bytes ≡ gate ∷ (framed body ++ next ∷ behind))
 GateIs Broken body bytes = HasNoUnit bytes
 
--- what reading the unit at a place gives: at the end nothing, else its body and the next gate's place
-abbrev pub GivesUnit : List (List ℕ) → ℕ → List ℕ → List ℕ → Option ℕ → Type 0
-GivesUnit bodies at body file None = EndsAt bodies at file
-GivesUnit bodies at body file (Some next) = (next ≡ at + (length body + 5)) × ComesTo (bodies ++ body ∷ []) next file
+-- what reading the unit at a place gives: at the end nothing, else the bytes of that unit and the next gate's place
+abbrev pub GivesUnit : List UnitView → ℕ → List ℕ → List ℕ → Option ℕ → Type 0
+GivesUnit units at body file None = EndsAt units at file
+GivesUnit units at body file (Some next) =
+    (unit : UnitView) × IsUnit body unit × (next ≡ at + (length body + 5)) × ComesTo (units ++ unit ∷ []) next file

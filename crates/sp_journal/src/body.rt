@@ -1,4 +1,4 @@
-//! What stands between a gate and the next one.
+//! The body of a unit, which are its bytes.
 ghost use Rattle.std.specs.Prelude.{◌≡◌, ◌≤◌, ◌+◌, ◌↔◌, length, take, drop, IsTrue, IfOk};
 ghost use Rattle.sp_disk.specs.Looked.{Looked};
 ghost use Rattle.sp_base.specs.Causes.{Rose};
@@ -6,6 +6,8 @@ ghost use Rattle.sp_journal.specs.Body.{IsBody};
 
 use sp_base::failure::Memory;
 use sp_disk::disk::{Disk, File};
+use sp_message::codec::ReadError;
+use sp_unit::unit::Unit;
 use std::alloc::Global;
 
 /// The greatest length of a body, in bytes.
@@ -18,11 +20,15 @@ pub(crate) enum Unread {
     Memory,
 }
 
-/// Whether bytes are a body. To know it may take memory.
-pub(crate) fn is_body(_alloc: Global, bytes: &[u8]) -> Result<bool, Memory>
+/// Whether bytes are those of a unit. It takes memory for the unit.
+pub(crate) fn is_body(alloc: Global, bytes: &[u8]) -> Result<bool, Memory>
     ensures { IfOk result (λ is. IsTrue is ↔ IsBody bytes.now) }
 {
-    Ok(!bytes.is_empty() && bytes.len() <= MAX_BODY as usize)
+    match Unit::read(alloc, bytes) {
+        Ok(_) => Ok(true),
+        Err(ReadError::NotOne) => Ok(false),
+        Err(ReadError::Memory) => Err(Memory),
+    }
 }
 
 /// Reads so many bytes at an offset of the journal, and tells whether they are there and are a body.
@@ -36,7 +42,7 @@ pub(crate) fn body_at<D: Disk>(
     ensures bytes { IsTrue (D.tells disk.old).content → at + size ≤ length (D.content disk.old File.Journal) →
         IfOk result (λ _. into.new.items ≡ take size (drop at (D.content disk.old File.Journal))) }
     ensures body { IsTrue (D.tells disk.old).content → at + size ≤ length (D.content disk.old File.Journal) →
-        IfOk result (λ is. IsTrue is ↔ IsBody (take size (drop at (D.content disk.old File.Journal)))) }
+        IfOk result (λ is. IsTrue is ↔ IsBody into.new.items) }
     ensures looked { Looked D.tells D.content D.may_leave D.moment D.left_since disk.old disk.new }
     ensures later { D.faults disk.old ≤ D.faults disk.new }
     ensures cause { result ≡ Err Unread.DiskFault → Rose (D.faults disk.old) (D.faults disk.new) }

@@ -5,6 +5,7 @@ ghost use Rattle.sp_disk.specs.Disk.{SameElsewhere, HoldsOnly, written};
 ghost use Rattle.sp_disk.specs.Everywhere.{Became, Everywhere, Reached, Vouches};
 ghost use Rattle.sp_disk.specs.Looked.{Looked};
 ghost use Rattle.sp_disk.specs.Moments.{LeavesOnly};
+ghost use Rattle.sp_unit.specs.UnitBytes.{unit_bytes};
 ghost use Rattle.sp_journal.specs.Closing.{IsClosedAt, MayClose};
 ghost use Rattle.sp_journal.specs.Format.{EndsAt, IsPiece};
 ghost use Rattle.sp_journal.specs.Unsure.{Offers, IsUnsure};
@@ -19,14 +20,14 @@ fn stage<D: Disk>(disk: &mut D, place: u64, piece: &[u8]) -> Result<(), Failed>
     requires within { IsTrue (D.tells disk.old).content → place + 1 ≤ length (D.content disk.old File.Journal) }
     ensures written { IsTrue (D.tells disk.old).content →
         OnOk result (D.content disk.new File.Journal ≡ written (D.content disk.old File.Journal) (place + 1) piece.now) }
-    ensures staged { (bodies : _) (body : _) →
-        Everywhere D.tells D.content D.may_leave File.Journal disk.old (EndsAt bodies place) → IsPiece body piece.now →
-        OnOk result (Everywhere D.tells D.content D.may_leave File.Journal disk.new (Offers bodies body place)) }
-    ensures kept { (bodies : _) → Everywhere D.tells D.content D.may_leave File.Journal disk.old (EndsAt bodies place) →
-        Everywhere D.tells D.content D.may_leave File.Journal disk.new (EndsAt bodies place) }
-    ensures moments { (bodies : _) → Everywhere D.tells D.content D.may_leave File.Journal disk.old (EndsAt bodies place) →
+    ensures staged { (units : _) (unit : _) →
+        Everywhere D.tells D.content D.may_leave File.Journal disk.old (EndsAt units place) → IsPiece unit piece.now →
+        OnOk result (Everywhere D.tells D.content D.may_leave File.Journal disk.new (Offers units unit place)) }
+    ensures kept { (units : _) → Everywhere D.tells D.content D.may_leave File.Journal disk.old (EndsAt units place) →
+        Everywhere D.tells D.content D.may_leave File.Journal disk.new (EndsAt units place) }
+    ensures moments { (units : _) → Everywhere D.tells D.content D.may_leave File.Journal disk.old (EndsAt units place) →
         Vouches (D.tells disk.old) → LeavesOnly D.moment D.left_since disk.old disk.new
-        (Became File.Journal (EndsAt bodies place) (D.may_leave disk.old)) }
+        (Became File.Journal (EndsAt units place) (D.may_leave disk.old)) }
     ensures others { SameElsewhere File.Journal (D.content disk.old) (D.content disk.new) }
     ensures telling { D.tells disk.new ≡ D.tells disk.old }
     ensures cause { HasCause (D.faults disk.old) (D.faults disk.new) result }
@@ -40,17 +41,17 @@ fn show<D: Disk>(disk: &mut D, place: u64) -> Result<(), Failed>
     requires { IsTrue (D.tells disk.old).content → place ≤ length (D.content disk.old File.Journal) }
     ensures written { IsTrue (D.tells disk.old).content →
         OnOk result (D.content disk.new File.Journal ≡ written (D.content disk.old File.Journal) place (1 ∷ [])) }
-    ensures shown { (bodies : _) (body : _) →
-        Everywhere D.tells D.content D.may_leave File.Journal disk.old (Offers bodies body place) →
+    ensures shown { (units : _) (unit : _) →
+        Everywhere D.tells D.content D.may_leave File.Journal disk.old (Offers units unit place) →
         OnOk result (Everywhere D.tells D.content D.may_leave File.Journal disk.new
-        (EndsAt (bodies ++ body ∷ []) (place + (length body + 5)))) }
-    ensures kept { (bodies : _) (body : _) →
-        Everywhere D.tells D.content D.may_leave File.Journal disk.old (Offers bodies body place) →
-        Everywhere D.tells D.content D.may_leave File.Journal disk.new (Offers bodies body place) }
-    ensures moments { (bodies : _) (body : _) →
-        Everywhere D.tells D.content D.may_leave File.Journal disk.old (Offers bodies body place) →
+        (EndsAt (units ++ unit ∷ []) (place + (length (unit_bytes unit) + 5)))) }
+    ensures kept { (units : _) (unit : _) →
+        Everywhere D.tells D.content D.may_leave File.Journal disk.old (Offers units unit place) →
+        Everywhere D.tells D.content D.may_leave File.Journal disk.new (Offers units unit place) }
+    ensures moments { (units : _) (unit : _) →
+        Everywhere D.tells D.content D.may_leave File.Journal disk.old (Offers units unit place) →
         Vouches (D.tells disk.old) → LeavesOnly D.moment D.left_since disk.old disk.new
-        (Became File.Journal (Offers bodies body place) (D.may_leave disk.old)) }
+        (Became File.Journal (Offers units unit place) (D.may_leave disk.old)) }
     ensures others { SameElsewhere File.Journal (D.content disk.old) (D.content disk.new) }
     ensures telling { D.tells disk.new ≡ D.tells disk.old }
     ensures cause { HasCause (D.faults disk.old) (D.faults disk.new) result }
@@ -62,20 +63,20 @@ fn show<D: Disk>(disk: &mut D, place: u64) -> Result<(), Failed>
 // Writes a piece behind the closed gate at a place and opens the gate: four calls of the disk.
 pub(crate) fn add<D: Disk>(disk: &mut D, place: u64, piece: &[u8]) -> Result<(), Failed>
     requires room { place + 1 < 2 ^ 64 }
-    requires rests { (bodies : _) × Everywhere D.tells D.content D.may_leave File.Journal disk.old (EndsAt bodies place) }
+    requires rests { (units : _) × Everywhere D.tells D.content D.may_leave File.Journal disk.old (EndsAt units place) }
     ensures written { IsTrue (D.tells disk.old).content → OnOk result
         (D.content disk.new File.Journal ≡ written (D.content disk.old File.Journal) place (1 ∷ piece.now)) }
-    ensures added { (bodies : _) (body : _) →
-        Everywhere D.tells D.content D.may_leave File.Journal disk.old (EndsAt bodies place) → IsPiece body piece.now →
+    ensures added { (units : _) (unit : _) →
+        Everywhere D.tells D.content D.may_leave File.Journal disk.old (EndsAt units place) → IsPiece unit piece.now →
         OnOk result (Everywhere D.tells D.content D.may_leave File.Journal disk.new
-        (EndsAt (bodies ++ body ∷ []) (place + (length body + 5)))) }
-    ensures unsure { (bodies : _) (body : _) →
-        Everywhere D.tells D.content D.may_leave File.Journal disk.old (EndsAt bodies place) → IsPiece body piece.now →
-        Everywhere D.tells D.content D.may_leave File.Journal disk.new (IsUnsure bodies body place) }
-    ensures moments { (bodies : _) (body : _) →
-        Everywhere D.tells D.content D.may_leave File.Journal disk.old (EndsAt bodies place) → IsPiece body piece.now →
+        (EndsAt (units ++ unit ∷ []) (place + (length (unit_bytes unit) + 5)))) }
+    ensures unsure { (units : _) (unit : _) →
+        Everywhere D.tells D.content D.may_leave File.Journal disk.old (EndsAt units place) → IsPiece unit piece.now →
+        Everywhere D.tells D.content D.may_leave File.Journal disk.new (IsUnsure units unit place) }
+    ensures moments { (units : _) (unit : _) →
+        Everywhere D.tells D.content D.may_leave File.Journal disk.old (EndsAt units place) → IsPiece unit piece.now →
         Vouches (D.tells disk.old) → LeavesOnly D.moment D.left_since disk.old disk.new
-        (Became File.Journal (IsUnsure bodies body place) (D.may_leave disk.old)) }
+        (Became File.Journal (IsUnsure units unit place) (D.may_leave disk.old)) }
     ensures others { SameElsewhere File.Journal (D.content disk.old) (D.content disk.new) }
     ensures telling { D.tells disk.new ≡ D.tells disk.old }
     ensures cause { HasCause (D.faults disk.old) (D.faults disk.new) result }

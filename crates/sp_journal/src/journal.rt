@@ -83,12 +83,12 @@ pub struct DiskFault;
 
 impl Journal {
     /// Opens a journal: syncs it, reads its units and finds the first closed gate. An unborn file is
-    /// born. It takes memory for the longest body.
+    /// born. It takes memory for the longest body and for the unit that this is.
     ///
     /// Where several errors apply, a fault or want of memory comes as soon as a call meets it.
     pub fn open<D: Disk>(alloc: Global, disk: &mut D) -> Result<Journal, OpenError>
-        ensures units { IfOk result (λ journal. (bodies : _) × Rests D.tells D.content D.may_leave bodies journal disk.new
-            × (IsTrue (D.tells disk.old).content → HasUnits bodies (D.content disk.old File.Journal))) }
+        ensures units { IfOk result (λ journal. (units : _) × Rests D.tells D.content D.may_leave units journal disk.new
+            × (IsTrue (D.tells disk.old).content → HasUnits units (D.content disk.old File.Journal))) }
         ensures first { IsTrue (D.tells disk.old).content →
             IfOk result (λ _. ComesTo [] 13 (D.content disk.new File.Journal)) }
         ensures synced { IsTrue (D.tells disk.old).honest →
@@ -176,9 +176,9 @@ impl Journal {
         self.place
     }
 
-    /// Reads the body of the unit at a place into the buffer, and gives the next place. None exactly at
+    /// Reads the bytes of the unit at a place into the buffer, and gives the next place. None exactly at
     /// the end, and of a journal that isn't born. The place is the first one or one that this call gave.
-    /// After an error the buffer may hold anything.
+    /// It takes memory for the bytes and the unit. After an error the buffer may hold anything.
     pub fn unit<D: Disk>(
         &self,
         alloc: Global,
@@ -187,15 +187,15 @@ impl Journal {
         into: &mut Vec<u8>,
     ) -> Result<Option<u64>, UnitError>
         requires { IsTrue (D.tells disk.old).content → ¬ IsNotBorn self.now →
-            (bodies : _) × ComesTo bodies at (D.content disk.old File.Journal) }
-        ensures unit { IsTrue (D.tells disk.old).content → ¬ IsNotBorn self.now → (bodies : _) →
-            ComesTo bodies at (D.content disk.old File.Journal) →
-            IfOk result (GivesUnit bodies at into.new.items (D.content disk.old File.Journal)) }
+            (units : _) × ComesTo units at (D.content disk.old File.Journal) }
+        ensures unit { IsTrue (D.tells disk.old).content → ¬ IsNotBorn self.now → (units : _) →
+            ComesTo units at (D.content disk.old File.Journal) →
+            IfOk result (GivesUnit units at into.new.items (D.content disk.old File.Journal)) }
         ensures unborn { IsNotBorn self.now → result ≡ Ok None }
-        ensures damaged { IsTrue (D.tells disk.old).content → ¬ IsNotBorn self.now → (bodies : _) →
-            ComesTo bodies at (D.content disk.old File.Journal) → (file : _) (place : _) →
+        ensures damaged { IsTrue (D.tells disk.old).content → ¬ IsNotBorn self.now → (units : _) →
+            ComesTo units at (D.content disk.old File.Journal) → (file : _) (place : _) →
             result ≡ Err (UnitError.Damaged file place) →
-            (file ≡ 0) × (place ≡ at) × StopsAt bodies at (D.content disk.old File.Journal) }
+            (file ≡ 0) × (place ≡ at) × StopsAt units at (D.content disk.old File.Journal) }
         ensures looked { Looked D.tells D.content D.may_leave D.moment D.left_since disk.old disk.new }
         ensures later { D.faults disk.old ≤ D.faults disk.new }
         ensures cause { result ≡ Err UnitError.DiskFault → Rose (D.faults disk.old) (D.faults disk.new) }
@@ -219,31 +219,32 @@ impl Journal {
     }
 
     /// Adds a unit to a journal that was opened and none of whose gates is unsure, and gives the new
-    /// place: four calls of the disk, and no memory. The piece is the body's length in four bytes, the
-    /// lowest first, the body, and 0x00. With the gate before it, it needs one byte more than its own
-    /// length, and no byte of it may come to stand past `max`. After a fault the gate is unsure.
+    /// place: four calls of the disk, and no memory. The piece is the length of the unit's bytes in four
+    /// bytes, the lowest first, those bytes, and 0x00. With the gate before it, it needs one byte more
+    /// than its own length, and no byte of it may come to stand past `max`. After a fault the gate is
+    /// unsure.
     pub fn append<D: Disk>(
         &mut self,
         disk: &mut D,
         piece: &[u8],
         max: u64,
     ) -> Result<u64, AppendError>
-        requires rests { (bodies : _) × Rests D.tells D.content D.may_leave bodies self.old disk.old }
-        requires piece { (body : _) × IsPiece body piece.now }
+        requires rests { (units : _) × Rests D.tells D.content D.may_leave units self.old disk.old }
+        requires piece { (unit : _) × IsPiece unit piece.now }
         ensures place { IfOk result (λ place. (place ≡ place_of self.old + length piece.now) × (place ≡ place_of self.new)) }
         // Once it is Ok, every image has the unit.
-        ensures added { (bodies : _) (body : _) → Rests D.tells D.content D.may_leave bodies self.old disk.old →
-            IsPiece body piece.now →
-            OnOk result (Rests D.tells D.content D.may_leave (bodies ++ body ∷ []) self.new disk.new) }
+        ensures added { (units : _) (unit : _) → Rests D.tells D.content D.may_leave units self.old disk.old →
+            IsPiece unit piece.now →
+            OnOk result (Rests D.tells D.content D.may_leave (units ++ unit ∷ []) self.new disk.new) }
         ensures written { IsTrue (D.tells disk.old).content → OnOk result (D.content disk.new File.Journal ≡
             written (D.content disk.old File.Journal) (place_of self.old) (1 ∷ piece.now)) }
-        ensures unsure { (bodies : _) (body : _) → Rests D.tells D.content D.may_leave bodies self.old disk.old →
-            IsPiece body piece.now → result ≡ Err AppendError.DiskFault →
-            Doubts D.tells D.content D.may_leave bodies body self.new disk.new }
+        ensures unsure { (units : _) (unit : _) → Rests D.tells D.content D.may_leave units self.old disk.old →
+            IsPiece unit piece.now → result ≡ Err AppendError.DiskFault →
+            Doubts D.tells D.content D.may_leave units unit self.new disk.new }
         // A crash at any moment of the call leaves the units from before it, or those and the new one.
-        ensures any_moment { (bodies : _) (body : _) → Rests D.tells D.content D.may_leave bodies self.old disk.old →
-            IsPiece body piece.now → Vouches (D.tells disk.old) → LeavesOnly D.moment D.left_since disk.old disk.new
-            (Became File.Journal (HasUnitsOr bodies body) (D.may_leave disk.old)) }
+        ensures any_moment { (units : _) (unit : _) → Rests D.tells D.content D.may_leave units self.old disk.old →
+            IsPiece unit piece.now → Vouches (D.tells disk.old) → LeavesOnly D.moment D.left_since disk.old disk.new
+            (Became File.Journal (HasUnitsOr units unit) (D.may_leave disk.old)) }
         ensures full { max < place_of self.old + (length piece.now + 1) →
             (result ≡ Err (AppendError.JournalFull (place_of self.old) (length piece.now + 1) max))
             × (self.new ≡ self.old) × (disk.new ≡ disk.old) }
@@ -277,13 +278,13 @@ impl Journal {
     /// Closes the gate of a journal that was opened, if that is unsure: afterwards none is. Where none
     /// is unsure it calls the disk not once. After a fault the gate is as unsure as before.
     pub fn heal<D: Disk>(&mut self, disk: &mut D) -> Result<(), DiskFault>
-        requires { (maybe : _) × (bodies : _) × StandsFor D.tells D.content D.may_leave maybe bodies self.old disk.old }
-        ensures healed { (maybe : _) (bodies : _) → StandsFor D.tells D.content D.may_leave maybe bodies self.old disk.old →
-            OnOk result (Rests D.tells D.content D.may_leave bodies self.new disk.new) }
-        ensures kept { (maybe : _) (bodies : _) → StandsFor D.tells D.content D.may_leave maybe bodies self.old disk.old →
-            OnErr result (StandsFor D.tells D.content D.may_leave maybe bodies self.new disk.new) }
+        requires { (maybe : _) × (units : _) × StandsFor D.tells D.content D.may_leave maybe units self.old disk.old }
+        ensures healed { (maybe : _) (units : _) → StandsFor D.tells D.content D.may_leave maybe units self.old disk.old →
+            OnOk result (Rests D.tells D.content D.may_leave units self.new disk.new) }
+        ensures kept { (maybe : _) (units : _) → StandsFor D.tells D.content D.may_leave maybe units self.old disk.old →
+            OnErr result (StandsFor D.tells D.content D.may_leave maybe units self.new disk.new) }
         ensures place { place_of self.new ≡ place_of self.old }
-        ensures sure { (bodies : _) → Rests D.tells D.content D.may_leave bodies self.old disk.old →
+        ensures sure { (units : _) → Rests D.tells D.content D.may_leave units self.old disk.old →
             (result ≡ Ok tt) × (self.new ≡ self.old) × (disk.new ≡ disk.old) }
         // Where a read gives a closed gate, nothing is written.
         ensures writes { IsTrue (D.tells disk.old).content → MayClose (place_of self.old)
@@ -291,10 +292,10 @@ impl Journal {
         ensures moments { Vouches (D.tells disk.old) → LeavesOnly D.moment D.left_since disk.old disk.new
             (Reached File.Journal (MayClose (place_of self.old) (D.content disk.old File.Journal)) (D.may_leave disk.old)) }
         // A crash at any moment of the call leaves the units, or those and the unsure one.
-        ensures any_moment { (maybe : _) (bodies : _) →
-            StandsFor D.tells D.content D.may_leave maybe bodies self.old disk.old → Vouches (D.tells disk.old) →
+        ensures any_moment { (maybe : _) (units : _) →
+            StandsFor D.tells D.content D.may_leave maybe units self.old disk.old → Vouches (D.tells disk.old) →
             LeavesOnly D.moment D.left_since disk.old disk.new
-            (Became File.Journal (HasUnitsMaybe maybe bodies) (D.may_leave disk.old)) }
+            (Became File.Journal (HasUnitsMaybe maybe units) (D.may_leave disk.old)) }
         ensures others { SameElsewhere File.Journal (D.content disk.old) (D.content disk.new) }
         ensures telling { D.tells disk.new ≡ D.tells disk.old }
         ensures cause { HasCause (D.faults disk.old) (D.faults disk.new) result }

@@ -1,20 +1,21 @@
 //! What follows from the format alone.
 ghost use Rattle.std.specs.Prelude.{◌≡◌, ◌↔◌, List, ℕ};
+ghost use Rattle.sp_unit.specs.UnitBytes.{UnitView};
 ghost use Rattle.sp_journal.specs.Damage.{IsDamaged, IsOtherVersion};
 ghost use Rattle.sp_journal.specs.Format.{EndsAt, HasUnits, IsUnborn};
 ghost use Rattle.sp_journal.specs.Unsure.{KeepsUnits};
 
 /// Bytes have one list of units.
 pub fn units_are_one()
-    ensures { (file : List ℕ) (some : List (List ℕ)) (other : List (List ℕ)) → HasUnits some file → HasUnits other file →
+    ensures { (file : List ℕ) (some : List UnitView) (other : List UnitView) → HasUnits some file → HasUnits other file →
         some ≡ other }
 {}
 
 /// A journal whose units end at a closed gate ends at one place, and is neither damaged, nor of another
 /// version, nor unborn.
 pub fn ends_are_sound()
-    ensures { (file : List ℕ) (bodies : List (List ℕ)) (place : ℕ) → EndsAt bodies place file →
-        ((others : List (List ℕ)) (other : ℕ) → EndsAt others other file → other ≡ place)
+    ensures { (file : List ℕ) (units : List UnitView) (place : ℕ) → EndsAt units place file →
+        ((others : List UnitView) (other : ℕ) → EndsAt others other file → other ≡ place)
         × ((at : ℕ) → ¬ IsDamaged at file) × ((found : ℕ) → ¬ IsOtherVersion found file) × (¬ IsUnborn file) }
 {}
 
@@ -32,6 +33,6 @@ pub fn other_version_is_one()
 
 /// What keeps its units has the units that it had.
 pub fn kept_units_are_the_same()
-    ensures { (old : List ℕ) (new : List ℕ) (bodies : List (List ℕ)) → KeepsUnits old new →
-        HasUnits bodies old ↔ HasUnits bodies new }
+    ensures { (old : List ℕ) (new : List ℕ) (units : List UnitView) → KeepsUnits old new →
+        HasUnits units old ↔ HasUnits units new }
 {}

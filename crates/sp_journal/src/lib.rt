@@ -1,4 +1,4 @@
-//! The journal: units of bytes on a disk, each behind a gate of its own.
+//! The journal: units on a disk, each behind a gate of its own.
 #![tactic(auto)]
 
 mod birth;

@@ -42,7 +42,7 @@ fn frame_of(gate: u8, size: [u8; 4], count: usize, left: u64) -> Gate
         return Gate::Broken;
     }
     let size = u32::from_le_bytes(size);
-    if size == 0 || size > MAX_BODY {
+    if size > MAX_BODY {
         return Gate::Broken;
     }
     if left < u64::from(size) + 6 {

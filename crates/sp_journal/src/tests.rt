@@ -1,5 +1,4 @@
-ghost use Rattle.std.specs.Prelude.{IfOk};
-ghost use Rattle.sp_journal.specs.Body.{IsBody};
+ghost use Rattle.std.specs.Prelude.{◌≡◌, ◌++◌, [], ◌∷◌, IfOk};
 ghost use Rattle.sp_journal.specs.Format.{IsPiece};
 ghost use Rattle.sp_journal.specs.State.{Rests, StandsFor};
 
@@ -7,6 +6,8 @@ use crate::journal::{AppendError, DiskFault, FIRST_PLACE, Journal, OpenError, Un
 use sp_disk::disk::{Disk, File};
 use sp_disk::folder::{FolderDisk, Paths};
 use sp_disk::memory::MemoryDisk;
+use sp_message::codec::ReadError;
+use sp_unit::unit::Unit;
 use std::alloc::{AllocError, Global};
 use std::fs;
 use std::test::Fail;
@@ -16,19 +17,37 @@ const J: File = File::Journal;
 // The provision of the queue `q1` by `ann` at moment 0, as a body.
 const PROVISION: &[u8] = b"\0\0\0\0\0\0\0\0\x03ann\x01\x01\x02\0\0\0q1\0\0";
 
+// Her publish of `hello` to it.
+const PUBLISH: &[u8] =
+    b"\0\0\0\0\0\0\0\0\x03ann\x01\x06\x01\x02\0\0\0q1\x05\0\0\0hello\0\0\0\0\0\0\0\0\0\0";
+
 // The journal that has it alone.
 const ONE_UNIT: &[u8] =
     b"\x01spooljnl\x01\0\0\0\x01\x16\0\0\0\0\0\0\0\0\0\0\0\x03ann\x01\x01\x02\0\0\0q1\0\0\0";
 
-// A body behind its length, and a closed gate.
-fn piece_of(alloc: Global, body: &[u8]) -> Result<Vec<u8>, AllocError>
-    requires { IsBody body.now }
-    ensures { IfOk result (λ piece. IsPiece body.now piece.items) }
+// A length, a body and a closed gate.
+fn joined(alloc: Global, size: &[u8], body: &[u8]) -> Result<Vec<u8>, AllocError>
+    ensures { IfOk result (λ piece. piece.items ≡ (size.now ++ body.now) ++ 0 ∷ []) }
 {
-    let mut piece = Vec::from_slice(alloc, &(body.len() as u32).to_le_bytes())?;
+    let mut piece = Vec::from_slice(alloc, size)?;
     piece.extend_from_slice(body)?;
     piece.push(0)?;
     Ok(piece)
+}
+
+// What `append` writes of a body that is a unit's.
+fn piece_of(alloc: Global, body: &[u8]) -> Result<Vec<u8>, ReadError>
+    ensures { IfOk result (λ piece. (unit : _) × IsPiece unit piece.items) }
+{
+    let _unit = Unit::read(alloc, body)?;
+    if body.len() > 16_777_216 {
+        return Err(ReadError::NotOne);
+    }
+    let size = (body.len() as u32).to_le_bytes();
+    match joined(alloc, &size, body) {
+        Ok(piece) => Ok(piece),
+        Err(AllocError) => Err(ReadError::Memory),
+    }
 }
 
 // What is done with a journal that was opened.
@@ -66,9 +85,9 @@ fn heal_once<D: Disk>(
     piece: &[u8],
     until: Until,
 ) -> Result<u64, OpenError>
-    requires stands { (maybe : _) × (bodies : _) ×
-        StandsFor D.tells D.content D.may_leave maybe bodies journal disk.old }
-    requires piece { (body : _) × IsPiece body piece.now }
+    requires stands { (maybe : _) × (units : _) ×
+        StandsFor D.tells D.content D.may_leave maybe units journal disk.old }
+    requires piece { (unit : _) × IsPiece unit piece.now }
 {
     match journal.heal(disk) {
         Ok(()) => again(journal, disk, piece, until),
@@ -87,9 +106,9 @@ fn heal_twice<D: Disk>(
     piece: &[u8],
     until: Until,
 ) -> Result<u64, OpenError>
-    requires stands { (maybe : _) × (bodies : _) ×
-        StandsFor D.tells D.content D.may_leave maybe bodies journal disk.old }
-    requires piece { (body : _) × IsPiece body piece.now }
+    requires stands { (maybe : _) × (units : _) ×
+        StandsFor D.tells D.content D.may_leave maybe units journal disk.old }
+    requires piece { (unit : _) × IsPiece unit piece.now }
 {
     match journal.heal(disk) {
         Ok(()) => again(journal, disk, piece, until),
@@ -104,8 +123,8 @@ fn again<D: Disk>(
     piece: &[u8],
     until: Until,
 ) -> Result<u64, OpenError>
-    requires rests { (bodies : _) × Rests D.tells D.content D.may_leave bodies journal disk.old }
-    requires piece { (body : _) × IsPiece body piece.now }
+    requires rests { (units : _) × Rests D.tells D.content D.may_leave units journal disk.old }
+    requires piece { (unit : _) × IsPiece unit piece.now }
 {
     if until != Until::AppendedAgain {
         return Ok(journal.place());
@@ -122,9 +141,7 @@ fn append_to<D: Disk>(
     disk: &mut D,
     body: &[u8],
     max: u64,
-) -> Result<Result<u64, AppendError>, OpenError>
-    requires { IsBody body.now }
-{
+) -> Result<Result<u64, AppendError>, OpenError> {
     let Ok(piece) = piece_of(alloc, body) else {
         return Err(OpenError::Memory);
     };
@@ -195,6 +212,10 @@ fn a_changed_byte_is_found(rt: HostRuntime) -> Result<(), Fail> {
         (14, 255, Err(OpenError::Damaged { file: 0, at: 13 })),
         (17, 1, Err(OpenError::Damaged { file: 0, at: 13 })),
         (40, 1, Err(OpenError::Damaged { file: 0, at: 40 })),
+        // A body without its last byte, one of no bytes, and an event of the tag 13.
+        (14, 21, Err(OpenError::Damaged { file: 0, at: 13 })),
+        (14, 0, Err(OpenError::Damaged { file: 0, at: 13 })),
+        (31, 13, Err(OpenError::Damaged { file: 0, at: 13 })),
     ];
     for (at, byte, answer) in table {
         let mut bytes = Vec::from_slice(alloc, ONE_UNIT)?;
@@ -222,8 +243,9 @@ fn a_full_journal_takes_no_more(rt: HostRuntime) -> Result<(), Fail> {
         max: 100,
     };
     assert_eq!(rt; append_to(alloc, &mut disk, PROVISION, 100), Ok(Ok(40)));
-    assert_eq!(rt; append_to(alloc, &mut disk, &[7; 40], 100), Ok(Ok(85)));
-    assert_eq!(rt; append_to(alloc, &mut disk, &[7; 40], 100), Ok(Err(full)));
+    assert_eq!(rt; append_to(alloc, &mut disk, PUBLISH, 100), Ok(Ok(85)));
+    assert_eq!(rt; append_to(alloc, &mut disk, PUBLISH, 100), Ok(Err(full)));
+    assert_eq!(rt; disk.bytes(J).len(), 86);
     // The openings make 10, 6 and 8 calls, and the first two units four each.
     assert_eq!(rt; disk.calls().len(), 32);
     Ok(())

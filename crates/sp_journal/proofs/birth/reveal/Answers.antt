@@ -13,7 +13,8 @@ returns-in_err-put-clause-reads g c told = named_units _ _ (c.requires.reads tol
 
 pub returns-in_err-put-clause-moments : goal.returns-in_err-put-clause-moments
 returns-in_err-put-clause-moments g c vouches =
-    reaches g.D.Disk.moment g.D.Disk.left_since Journal c.args.disk.now c.put.new.disk (g.D.Disk.may_leave c.args.disk.now)
+    reaches g.D.Disk.moment g.D.Disk.left_since Journal c.args.disk.now c.put.new.disk
+    (g.D.Disk.may_leave c.args.disk.now)
     IsNamed (Torn 0 1) KeepsUnits (c.requires.images vouches) named_keeps (c.put.ensures.moments vouches.honest)
 
 pub returns-clause-born : goal.returns-clause-born
@@ -27,5 +28,6 @@ returns-clause-reads g c told = named_units _ _ (c.requires.reads told) (c.put.e
 
 pub returns-clause-moments : goal.returns-clause-moments
 returns-clause-moments g c vouches =
-    reaches g.D.Disk.moment g.D.Disk.left_since Journal c.args.disk.now c.put.new.disk (g.D.Disk.may_leave c.args.disk.now)
+    reaches g.D.Disk.moment g.D.Disk.left_since Journal c.args.disk.now c.put.new.disk
+    (g.D.Disk.may_leave c.args.disk.now)
     IsNamed (Torn 0 1) KeepsUnits (c.requires.images vouches) named_keeps (c.put.ensures.moments vouches.honest)

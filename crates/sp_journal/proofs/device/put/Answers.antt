@@ -14,7 +14,8 @@ returns-in_err-write-clause-moments g c honest =
 pub returns-in_err-sync-clause-moments : goal.returns-in_err-sync-clause-moments
 returns-in_err-sync-clause-moments g c honest =
     let n = length c.args.bytes.now in
-    let wrote = makes g.D.Disk.moment g.D.Disk.left_since g.D.Disk.may_leave Journal (Torn c.args.at n) g.met.D.Disk.only_now
+    let wrote = makes g.D.Disk.moment g.D.Disk.left_since g.D.Disk.may_leave Journal (Torn c.args.at n)
+    g.met.D.Disk.only_now
     (torn_same c.args.at n) c.args.disk.now c.write.new.self (c.write.ensures.images honest) c.write.ensures.time in
     makes_and_syncs g.D.Disk.moment g.D.Disk.left_since g.D.Disk.may_leave Journal (Torn c.args.at n) c.args.disk.now
     c.write.new.self c.sync.new.self wrote (c.write.ensures.images honest) c.sync.ensures.images c.sync.ensures.time
@@ -22,7 +23,8 @@ returns-in_err-sync-clause-moments g c honest =
 pub returns-clause-moments : goal.returns-clause-moments
 returns-clause-moments g c honest =
     let n = length c.args.bytes.now in
-    let wrote = makes g.D.Disk.moment g.D.Disk.left_since g.D.Disk.may_leave Journal (Torn c.args.at n) g.met.D.Disk.only_now
+    let wrote = makes g.D.Disk.moment g.D.Disk.left_since g.D.Disk.may_leave Journal (Torn c.args.at n)
+    g.met.D.Disk.only_now
     (torn_same c.args.at n) c.args.disk.now c.write.new.self (c.write.ensures.images honest) c.write.ensures.time in
     makes_and_syncs g.D.Disk.moment g.D.Disk.left_since g.D.Disk.may_leave Journal (Torn c.args.at n) c.args.disk.now
     c.write.new.self c.sync.new.self wrote (c.write.ensures.images honest) c.sync.ensures.images c.sync.ensures.time

@@ -1,28 +1,28 @@
-use Rattle.std.proofs.Common.{inl, inr, sym, subst, arith, IsTrue}
+use Rattle.std.proofs.Common.{inl, inr, sym, subst, IsTrue}
 use Rattle.sp_disk.specs.Disk.{Telling}
 use Rattle.sp_disk.specs.Everywhere.{Vouches}
 use Rattle.sp_disk.specs.declared.disk.File.TheVariants.{Journal}
-use Rattle.sp_disk.proofs.EverywhereLemmas.{followed, stepped, widened}
+use Rattle.sp_disk.proofs.EverywhereLemmas.{followed, widened}
 use Rattle.sp_journal.specs.Format.{EndsAt}
 use Rattle.sp_journal.specs.Unsure.{Offers, IsUnsure}
-use Rattle.sp_journal.proofs.UnitSteps.{ends_long, ends_over}
+use Rattle.sp_journal.proofs.UnitSteps.{ends_over}
 use Rattle.sp_journal.proofs.gates.add.Goals as goal
 
 pub returns-in_err-show-clause-unsure : goal.returns-in_err-show-clause-unsure
-returns-in_err-show-clause-unsure g c bodies body was is =
+returns-in_err-show-clause-unsure g c units unit was is =
     let at = c.args.place in
-    widened g.D.Disk.tells g.D.Disk.content g.D.Disk.may_leave Journal c.show.new.disk (Offers bodies body at)
-    (IsUnsure bodies body at) (λ file offers. inr offers)
-    (c.show.ensures.kept bodies body (c.in_ok-stage.ensures.staged bodies body was is))
+    widened g.D.Disk.tells g.D.Disk.content g.D.Disk.may_leave Journal c.show.new.disk (Offers units unit at)
+    (IsUnsure units unit at) (λ file offers. inr offers)
+    (c.show.ensures.kept units unit (c.in_ok-stage.ensures.staged units unit was is))
 
 pub returns-in_err-show-clause-moments : goal.returns-in_err-show-clause-moments
-returns-in_err-show-clause-moments g c bodies body was is vouches =
+returns-in_err-show-clause-moments g c units unit was is vouches =
     let at = c.args.place in
     followed g.D.Disk.moment g.D.Disk.left_since g.D.Disk.may_leave Journal g.met.D.Disk.counts_now c.args.disk.now
-    c.stage.new.disk c.show.new.disk (λ before. EndsAt bodies at) (λ before. Offers bodies body at)
-    (λ before. IsUnsure bodies body at) (λ a b ends. inl ends) (λ a b d ends offers. inr offers)
-    (c.stage.ensures.moments bodies was vouches)
-    (c.show.ensures.moments bodies body (c.in_ok-stage.ensures.staged bodies body was is)
+    c.stage.new.disk c.show.new.disk (λ before. EndsAt units at) (λ before. Offers units unit at)
+    (λ before. IsUnsure units unit at) (λ a b ends. inl ends) (λ a b d ends offers. inr offers)
+    (c.stage.ensures.moments units was vouches)
+    (c.show.ensures.moments units unit (c.in_ok-stage.ensures.staged units unit was is)
     (subst Vouches (sym c.stage.ensures.telling) vouches))
 
 pub returns-clause-written : goal.returns-clause-written
@@ -34,18 +34,18 @@ returns-clause-written g c told =
     (c.in_ok-show.ensures.written still)
 
 pub returns-clause-unsure : goal.returns-clause-unsure
-returns-clause-unsure g c bodies body was is =
+returns-clause-unsure g c units unit was is =
     let at = c.args.place in
-    widened g.D.Disk.tells g.D.Disk.content g.D.Disk.may_leave Journal c.show.new.disk (Offers bodies body at)
-    (IsUnsure bodies body at) (λ file offers. inr offers)
-    (c.show.ensures.kept bodies body (c.in_ok-stage.ensures.staged bodies body was is))
+    widened g.D.Disk.tells g.D.Disk.content g.D.Disk.may_leave Journal c.show.new.disk (Offers units unit at)
+    (IsUnsure units unit at) (λ file offers. inr offers)
+    (c.show.ensures.kept units unit (c.in_ok-stage.ensures.staged units unit was is))
 
 pub returns-clause-moments : goal.returns-clause-moments
-returns-clause-moments g c bodies body was is vouches =
+returns-clause-moments g c units unit was is vouches =
     let at = c.args.place in
     followed g.D.Disk.moment g.D.Disk.left_since g.D.Disk.may_leave Journal g.met.D.Disk.counts_now c.args.disk.now
-    c.stage.new.disk c.show.new.disk (λ before. EndsAt bodies at) (λ before. Offers bodies body at)
-    (λ before. IsUnsure bodies body at) (λ a b ends. inl ends) (λ a b d ends offers. inr offers)
-    (c.stage.ensures.moments bodies was vouches)
-    (c.show.ensures.moments bodies body (c.in_ok-stage.ensures.staged bodies body was is)
+    c.stage.new.disk c.show.new.disk (λ before. EndsAt units at) (λ before. Offers units unit at)
+    (λ before. IsUnsure units unit at) (λ a b ends. inl ends) (λ a b d ends offers. inr offers)
+    (c.stage.ensures.moments units was vouches)
+    (c.show.ensures.moments units unit (c.in_ok-stage.ensures.staged units unit was is)
     (subst Vouches (sym c.stage.ensures.telling) vouches))

@@ -1,4 +1,4 @@
-use Rattle.std.proofs.Common.{◌≡◌, ℕ, ◌+◌, ◌-◌, ◌≤◌, List, [], ◌∷◌, ◌++◌, length, drop, IsTrue, inr, sym, ap, subst, arith, rules}
+use Rattle.std.proofs.Common.{◌≡◌, ℕ, ◌+◌, ◌-◌, ◌≤◌, List, [], ◌∷◌, ◌++◌, length, drop, inr, sym, ap, subst, arith, rules}
 use Rattle.std.proofs.lemmas.List.{length-drop}
 use Rattle.sp_disk.specs.declared.disk.File.TheVariants.{Journal}
 use Rattle.sp_disk.proofs.LookedLemmas.{reads_same, then, told_still}
@@ -17,8 +17,10 @@ returns-in-Closed-clause-found g c told =
     let body = c.gate_at.new.into.items in
     let comes = c.units.invariant.comes told in
     let looked = c.units.invariant.looked in
-    let same = reads_same g.D.Disk.tells g.D.Disk.content g.D.Disk.may_leave g.D.Disk.moment g.D.Disk.left_since old mid looked Journal in
-    let still = told_still g.D.Disk.tells g.D.Disk.content g.D.Disk.may_leave g.D.Disk.moment g.D.Disk.left_since old mid looked told in
+    let same = reads_same g.D.Disk.tells g.D.Disk.content g.D.Disk.may_leave g.D.Disk.moment g.D.Disk.left_since old
+    mid looked Journal in
+    let still = told_still g.D.Disk.tells g.D.Disk.content g.D.Disk.may_leave g.D.Disk.moment g.D.Disk.left_since old
+    mid looked told in
     let left : c.args.len - place ≡ length (drop place (g.D.Disk.content mid Journal)) =
     omega (arith, length-drop place (g.D.Disk.content mid Journal), ap length same, (c.requires.born told).0) in
     let there : GateIs c.in_ok-gate_at.field-0 body (drop place (g.D.Disk.content mid Journal)) =
@@ -36,8 +38,10 @@ returns-in-Broken-clause-found g c told =
     let body = c.gate_at.new.into.items in
     let comes = c.units.invariant.comes told in
     let looked = c.units.invariant.looked in
-    let same = reads_same g.D.Disk.tells g.D.Disk.content g.D.Disk.may_leave g.D.Disk.moment g.D.Disk.left_since old mid looked Journal in
-    let still = told_still g.D.Disk.tells g.D.Disk.content g.D.Disk.may_leave g.D.Disk.moment g.D.Disk.left_since old mid looked told in
+    let same = reads_same g.D.Disk.tells g.D.Disk.content g.D.Disk.may_leave g.D.Disk.moment g.D.Disk.left_since old
+    mid looked Journal in
+    let still = told_still g.D.Disk.tells g.D.Disk.content g.D.Disk.may_leave g.D.Disk.moment g.D.Disk.left_since old
+    mid looked told in
     let left : c.args.len - place ≡ length (drop place (g.D.Disk.content mid Journal)) =
     omega (arith, length-drop place (g.D.Disk.content mid Journal), ap length same, (c.requires.born told).0) in
     let there : GateIs c.in_ok-gate_at.field-0 body (drop place (g.D.Disk.content mid Journal)) =
@@ -57,7 +61,8 @@ units-preserved g c =
     let fits : n + 6 ≤ c.args.len - place = search rules in
     record {
       below = omega (arith, size, fits);
-      looked = then g.D.Disk.tells g.D.Disk.content g.D.Disk.may_leave g.D.Disk.moment g.D.Disk.left_since old mid c.gate_at.new.disk
+      looked = then g.D.Disk.tells g.D.Disk.content g.D.Disk.may_leave g.D.Disk.moment g.D.Disk.left_since old mid
+          c.gate_at.new.disk
           c.units.invariant.looked c.gate_at.ensures.looked;
       faults = search rules;
       comes = λ told.
@@ -65,17 +70,19 @@ units-preserved g c =
           let body = c.gate_at.new.into.items in
           let comes = c.units.invariant.comes told in
           let looked = c.units.invariant.looked in
-          let same = reads_same g.D.Disk.tells g.D.Disk.content g.D.Disk.may_leave g.D.Disk.moment g.D.Disk.left_since old mid looked Journal in
-          let still = told_still g.D.Disk.tells g.D.Disk.content g.D.Disk.may_leave g.D.Disk.moment g.D.Disk.left_since old mid looked told in
+          let same = reads_same g.D.Disk.tells g.D.Disk.content g.D.Disk.may_leave g.D.Disk.moment g.D.Disk.left_since
+          old mid looked Journal in
+          let still = told_still g.D.Disk.tells g.D.Disk.content g.D.Disk.may_leave g.D.Disk.moment g.D.Disk.left_since
+          old mid looked told in
           let left : c.args.len - place ≡ length (drop place (g.D.Disk.content mid Journal)) =
           omega (arith, length-drop place (g.D.Disk.content mid Journal), ap length same, (c.requires.born told).0) in
           let there : GateIs c.in_ok-gate_at.field-0 body (drop place (g.D.Disk.content mid Journal)) =
           c.in_ok-gate_at.ensures.gate still left in
           let whole : GateIs (Whole n) body (drop place file) =
           subst (λ (l : List ℕ). GateIs (Whole n) body (drop place l)) same
-          (subst (λ (gate : Gate). GateIs gate body (drop place (g.D.Disk.content mid Journal))) c.in-Whole.is there) in (
-            comes.0 ++ body ∷ [],
-            subst (λ (k : ℕ). ComesTo (comes.0 ++ body ∷ []) (place + (k + 5)) file) (sym size)
-                (comes_whole comes.0 place file comes.1 n body whole),
+          (subst (λ (gate : Gate). GateIs gate body (drop place (g.D.Disk.content mid Journal))) c.in-Whole.is there) in
+          let next = comes_whole comes.0 place file comes.1 n body whole in (
+            comes.0 ++ next.0 ∷ [],
+            subst (λ (k : ℕ). ComesTo (comes.0 ++ next.0 ∷ []) (place + (k + 5)) file) (sym size) next.2,
           );
     }

@@ -1,9 +1,10 @@
-use Rattle.std.proofs.Common.{◌≡◌, ℕ, List, [], IsTrue, ◌∙◌, refl, sym, ap, subst, inl, inr}
+use Rattle.std.proofs.Common.{◌≡◌, ℕ, List, IsTrue, ◌∙◌, refl, sym, ap, subst, inl, inr}
 use Rattle.sp_disk.specs.Disk.{Folder, Telling}
 use Rattle.sp_disk.specs.Everywhere.{Vouches}
 use Rattle.sp_disk.specs.declared.disk.File.TheVariants.{Journal as JournalFile}
 use Rattle.sp_disk.proofs.EverywhereLemmas.{followed, reaches_none}
 use Rattle.sp_disk.proofs.LookedLemmas.{adds_none_and_looks}
+use Rattle.sp_unit.specs.UnitBytes.{UnitView}
 use Rattle.sp_journal.specs.Damage.{IsDamaged}
 use Rattle.sp_journal.specs.Format.{EndsAt}
 use Rattle.sp_journal.specs.Survey.{IsSo}
@@ -34,12 +35,13 @@ returns-in-Ends-clause-units g c =
     let mid = g.D.Disk.content c.sync.new.self JournalFile in
     let place = c.in-Ends.place in
     let same : mid ≡ file = ap (λ (f : Folder). f JournalFile) c.sync.ensures.content in
-    let ends : IsTrue (g.D.Disk.tells c.args.disk.now).content → (bodies : List (List ℕ)) × EndsAt bodies place file = λ told.
+    let ends : IsTrue (g.D.Disk.tells c.args.disk.now).content → (units : List UnitView) × EndsAt units place file =
+    λ told.
     let still : IsTrue (g.D.Disk.tells c.sync.new.self).content =
     subst (λ (t : Telling). IsTrue t.content) (sym c.sync.ensures.telling) told in
     subst (λ (l : List ℕ). IsSo (Ends place) l) same
     (subst (λ (s : Survey). IsSo s mid) c.in-Ends.is (c.in-Ok-inspect.ensures.found still)) in
-    let chosen = where_told (g.D.Disk.tells c.args.disk.now).content (λ bodies. EndsAt bodies place file) ends in (
+    let chosen = where_told (g.D.Disk.tells c.args.disk.now).content (λ units. EndsAt units place file) ends in (
       chosen.0,
       record {
         sure = refl;
@@ -60,21 +62,27 @@ returns-in-Ends-clause-first g c told =
 pub returns-in-Ok-birth-clause-any_moment : goal.returns-in-Ok-birth-clause-any_moment
 returns-in-Ok-birth-clause-any_moment g c vouches =
     let old = c.args.disk.now in
-    let looked = reaches_none g.D.Disk.moment g.D.Disk.left_since JournalFile old c.inspect.new.disk (g.D.Disk.may_leave old)
-    KeepsUnits (λ bytes. inl refl) (adds_none_and_looks g.D.Disk.tells g.D.Disk.content g.D.Disk.may_leave g.D.Disk.moment
+    let looked = reaches_none g.D.Disk.moment g.D.Disk.left_since JournalFile old c.inspect.new.disk
+    (g.D.Disk.may_leave old)
+    KeepsUnits (λ bytes. inl refl)
+    (adds_none_and_looks g.D.Disk.tells g.D.Disk.content g.D.Disk.may_leave g.D.Disk.moment
     g.D.Disk.left_since g.met.D.Disk.only_now old c.sync.new.self c.inspect.new.disk c.sync.ensures.images
     c.sync.ensures.time c.inspect.ensures.looked) in
     followed g.D.Disk.moment g.D.Disk.left_since g.D.Disk.may_leave JournalFile g.met.D.Disk.counts_now old
     c.inspect.new.disk c.birth.new.disk KeepsUnits KeepsUnits KeepsUnits (λ a b keeps. keeps) keeps_on looked
-    (c.birth.ensures.moments (subst Vouches (sym (c.inspect.ensures.looked.same_telling ∙ c.sync.ensures.telling)) vouches))
+    (c.birth.ensures.moments
+    (subst Vouches (sym (c.inspect.ensures.looked.same_telling ∙ c.sync.ensures.telling)) vouches))
 
 pub returns-in-Err-clause-any_moment : goal.returns-in-Err-clause-any_moment
 returns-in-Err-clause-any_moment g c vouches =
     let old = c.args.disk.now in
-    let looked = reaches_none g.D.Disk.moment g.D.Disk.left_since JournalFile old c.inspect.new.disk (g.D.Disk.may_leave old)
-    KeepsUnits (λ bytes. inl refl) (adds_none_and_looks g.D.Disk.tells g.D.Disk.content g.D.Disk.may_leave g.D.Disk.moment
+    let looked = reaches_none g.D.Disk.moment g.D.Disk.left_since JournalFile old c.inspect.new.disk
+    (g.D.Disk.may_leave old)
+    KeepsUnits (λ bytes. inl refl)
+    (adds_none_and_looks g.D.Disk.tells g.D.Disk.content g.D.Disk.may_leave g.D.Disk.moment
     g.D.Disk.left_since g.met.D.Disk.only_now old c.sync.new.self c.inspect.new.disk c.sync.ensures.images
     c.sync.ensures.time c.inspect.ensures.looked) in
     followed g.D.Disk.moment g.D.Disk.left_since g.D.Disk.may_leave JournalFile g.met.D.Disk.counts_now old
     c.inspect.new.disk c.birth.new.disk KeepsUnits KeepsUnits KeepsUnits (λ a b keeps. keeps) keeps_on looked
-    (c.birth.ensures.moments (subst Vouches (sym (c.inspect.ensures.looked.same_telling ∙ c.sync.ensures.telling)) vouches))
+    (c.birth.ensures.moments
+    (subst Vouches (sym (c.inspect.ensures.looked.same_telling ∙ c.sync.ensures.telling)) vouches))

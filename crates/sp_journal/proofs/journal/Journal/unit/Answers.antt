@@ -10,7 +10,7 @@ use Rattle.sp_journal.proofs.Walks.{comes_closed, comes_broken, comes_whole}
 use Rattle.sp_journal.proofs.journal.Journal.unit.Goals as goal
 
 pub returns-in-Ok-Closed-clause-unit : goal.returns-in-Ok-Closed-clause-unit
-returns-in-Ok-Closed-clause-unit g c told born bodies comes =
+returns-in-Ok-Closed-clause-unit g c told born units comes =
     let at = c.args.at in
     let body = c.gate_at.new.into.items in
     let file = g.D.Disk.content c.args.disk.now JournalFile in
@@ -20,12 +20,13 @@ returns-in-Ok-Closed-clause-unit g c told born bodies comes =
     subst (λ (t : Telling). IsTrue t.content) (sym c.len.ensures.telling) told in
     let left : c.in-Ok.len - at ≡ length (drop at mid) =
     omega (arith, length-drop at mid, ap length same, c.in-Ok.ensures.length told) in
-    comes_closed bodies at file comes body
+    comes_closed units at file comes body
     (subst (λ (l : List ℕ). GateIs Closed body (drop at l)) same
-    (subst (λ (gate : Gate). GateIs gate body (drop at mid)) c.in-Ok-Closed.field-0-is (c.in-Ok-Closed.ensures.gate still left)))
+    (subst (λ (gate : Gate). GateIs gate body (drop at mid)) c.in-Ok-Closed.field-0-is
+    (c.in-Ok-Closed.ensures.gate still left)))
 
 pub returns-in-Ok-Broken-clause-damaged : goal.returns-in-Ok-Broken-clause-damaged
-returns-in-Ok-Broken-clause-damaged g c told born bodies comes number place is =
+returns-in-Ok-Broken-clause-damaged g c told born units comes number place is =
     let at = c.args.at in
     let body = c.gate_at.new.into.items in
     let file = g.D.Disk.content c.args.disk.now JournalFile in
@@ -38,11 +39,12 @@ returns-in-Ok-Broken-clause-damaged g c told born bodies comes number place is =
     let none : 0 ≡ number = cc in
     let here : at ≡ place = cc in
     let there = subst (λ (l : List ℕ). GateIs Broken body (drop at l)) same
-    (subst (λ (gate : Gate). GateIs gate body (drop at mid)) c.in-Ok-Broken.field-0-is (c.in-Ok-Broken.ensures.gate still left)) in
-    (sym none, sym here, comes_broken bodies at file comes body there)
+    (subst (λ (gate : Gate). GateIs gate body (drop at mid)) c.in-Ok-Broken.field-0-is
+    (c.in-Ok-Broken.ensures.gate still left)) in
+    (sym none, sym here, comes_broken units at file comes body there)
 
 pub returns-in-Ok-Whole-clause-unit : goal.returns-in-Ok-Whole-clause-unit
-returns-in-Ok-Whole-clause-unit g c told born bodies comes =
+returns-in-Ok-Whole-clause-unit g c told born units comes =
     let at = c.args.at in
     let n = c.in-Ok-Whole.size in
     let body = c.gate_at.new.into.items in
@@ -55,9 +57,13 @@ returns-in-Ok-Whole-clause-unit g c told born bodies comes =
     omega (arith, length-drop at mid, ap length same, c.in-Ok.ensures.length told) in
     let whole : GateIs (Whole n) body (drop at file) =
     subst (λ (l : List ℕ). GateIs (Whole n) body (drop at l)) same
-    (subst (λ (gate : Gate). GateIs gate body (drop at mid)) c.in-Ok-Whole.field-0-is (c.in-Ok-Whole.ensures.gate still left)) in
+    (subst (λ (gate : Gate). GateIs gate body (drop at mid)) c.in-Ok-Whole.field-0-is
+    (c.in-Ok-Whole.ensures.gate still left)) in
     let size : c.from.result ≡ n = search rules in
-    let next : at + (n + 5) ≡ at + c.from.result + 5 = omega (arith, size) in (
+    let next : at + (n + 5) ≡ at + c.from.result + 5 = omega (arith, size) in
+    let found = comes_whole units at file comes n body whole in (
+      found.0,
+      found.1,
       omega (arith, size, whole.5),
-      subst (λ (k : ℕ). ComesTo (bodies ++ body ∷ []) k file) next (comes_whole bodies at file comes n body whole),
+      subst (λ (k : ℕ). ComesTo (units ++ found.0 ∷ []) k file) next found.2,
     )
