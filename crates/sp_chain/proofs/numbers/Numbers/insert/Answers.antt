@@ -1,0 +1,4 @@
+use Rattle.sp_chain.proofs.numbers.Numbers.insert.Goals as goal
+
+pub returns-clause-keys : goal.returns-clause-keys
+returns-clause-keys c n = rw (← c.self.view_is) (c.in-Ok.ensures.updates.0 n)
