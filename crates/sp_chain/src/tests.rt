@@ -1,5 +1,8 @@
 use crate::chains::Chains;
+use crate::deadline::Deadline;
+use crate::deadlines::Deadlines;
 use crate::node::Key;
+use crate::numbers::Numbers;
 use std::alloc::Global;
 use std::test::Fail;
 
@@ -89,5 +92,80 @@ fn a_random_walk_over_chains_agrees_with_plain_rows(rt: HostRuntime) -> Result<(
         assert_eq!(rt; found.as_slice(), wanted.as_slice());
     }
     assert!(rt; rows.len() > 20);
+    Ok(())
+}
+
+#[test]
+fn numbers_keep_their_keys_until_they_are_taken_out(rt: HostRuntime) -> Result<(), Fail> {
+    let mut numbers = Numbers::new(rt.alloc());
+    let mut present = Vec::new(rt.alloc());
+    present.resize(50, false)?;
+    let mut draw = 5u64;
+    for _step in 0..500 {
+        draw = drawn(draw);
+        let number = (draw >> 33) % 50;
+        let place = number as usize;
+        numbers.reserve(1)?;
+        if place < present.len() && numbers.room() > 0 {
+            if present[place] {
+                assert_eq!(rt; numbers.get(number), Some(place + 7));
+                assert_eq!(rt; numbers.remove(number), Some(place + 7));
+            } else {
+                assert_eq!(rt; numbers.remove(number), None);
+                numbers.insert(number, place + 7);
+            }
+            present[place] = !present[place];
+        }
+        let wanted = if present.get(place).copied() == Some(true) {
+            Some(place + 7)
+        } else {
+            None
+        };
+        assert_eq!(rt; numbers.get(number), wanted);
+    }
+    Ok(())
+}
+
+/// The first of deadlines in a plain list.
+fn least(deadlines: &[Option<Deadline>]) -> Option<Deadline> {
+    let mut first: Option<Deadline> = None;
+    for deadline in deadlines {
+        let Some(deadline) = deadline else { continue };
+        match first {
+            Some(other) if (other.moment, other.number) < (deadline.moment, deadline.number) => {}
+            _ => first = Some(*deadline),
+        }
+    }
+    first
+}
+
+#[test]
+fn a_random_walk_over_deadlines_agrees_with_a_plain_list(rt: HostRuntime) -> Result<(), Fail> {
+    let mut deadlines = Deadlines::new(rt.alloc());
+    let mut plain: Vec<Option<Deadline>> = Vec::new(rt.alloc());
+    assert_eq!(rt; deadlines.first(), None);
+    let mut draw = 9u64;
+    for step in 0..600u64 {
+        draw = drawn(draw);
+        let place = ((draw >> 33) % (1 + step / 20)) as usize;
+        deadlines.reserve(place + 1)?;
+        plain.resize(30, None)?;
+        if place < deadlines.places() && place < plain.len() {
+            if plain[place].is_some() {
+                deadlines.remove(place);
+                plain[place] = None;
+            } else {
+                let deadline = Deadline {
+                    moment: (draw >> 50) % 4,
+                    number: step,
+                };
+                deadlines.insert(place, deadline);
+                plain[place] = Some(deadline);
+            }
+            assert_eq!(rt; deadlines.get(place), plain[place]);
+        }
+        assert_eq!(rt; deadlines.first(), least(plain.as_slice()));
+    }
+    assert!(rt; deadlines.places() >= 30);
     Ok(())
 }
