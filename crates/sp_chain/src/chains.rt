@@ -1,5 +1,5 @@
-ghost use Rattle.std.specs.Prelude.{◌≡◌, ◌≤◌, ◌<◌, ◌+◌, ◌++◌, ◌∷◌, [], None, map, length, option_map, option_copied, OnOk, OnSome, List};
-ghost use Rattle.sp_chain.specs.Items.{Item, Walks, chain_of, item_at, first_in, next_after, without, with_value};
+ghost use Rattle.std.specs.Prelude.{◌≡◌, ◌≤◌, ◌<◌, ◌↔◌, ◌+◌, ◌++◌, ◌∷◌, [], None, if◌then◌else◌, is_some, IfSome, MatchOption, map, length, option_map, option_copied, OnOk, OnSome, List};
+ghost use Rattle.sp_chain.specs.Items.{Item, Walks, chain_of, item_at, first_in, inserted_before, next_after, without, with_value};
 ghost use Rattle.sp_chain.specs.Kept.{Stands};
 
 use crate::links::{ends_of, open_below, past, set_before, set_behind, set_ends, set_value};
@@ -120,6 +120,46 @@ impl<T> Chains<T> {
             },
         );
         key
+    }
+
+    /// Puts a value right before the one under a key, in the same chain, where room is reserved, and
+    /// gives the key under which it stands. None where there is no value under that key; then nothing
+    /// changes.
+    pub fn insert_before(&mut self, next: Key, value: T) -> Option<Key>
+    where
+        T: Drop,
+        requires room { 0 < self.old.room }
+        ensures none { (L : List (Item T)) → Stands self.old L → (result ≡ None) ↔ (item_at L next ≡ None) }
+        ensures items { (L : List (Item T)) → Stands self.old L →
+            MatchOption result (Stands self.new L) (λ key. Stands self.new (inserted_before L next key value)) }
+        ensures fresh { (L : List (Item T)) → Stands self.old L → IfSome result (λ key. item_at L key ≡ None) }
+        ensures bound { IfSome result (λ key. key < self.new.capacity) }
+        ensures capacity { self.new.capacity ≡ self.old.capacity }
+        ensures room { self.old.room ≡ self.new.room + (if is_some result then 1 else 0) }
+        ensures chains { length self.new.ends ≡ length self.old.ends }
+    {
+        let node = self.nodes.get(next)?;
+        let chain = node.chain;
+        let before = node.before;
+        let key = self.nodes.insert_reserved(Node {
+            chain,
+            value,
+            before,
+            behind: Some(next),
+        });
+        set_behind(&mut self.nodes, before, Some(key));
+        set_before(&mut self.nodes, Some(next), Some(key));
+        let ends = ends_of(&self.ends, chain);
+        let first = past(ends.first, next, Some(key));
+        set_ends(
+            &mut self.ends,
+            chain,
+            Ends {
+                first,
+                last: ends.last,
+            },
+        );
+        Some(key)
     }
 
     /// Takes the value under a key out, and gives back its room. None where there is none; then

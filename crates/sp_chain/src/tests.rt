@@ -56,6 +56,11 @@ fn each_chain_keeps_its_order(rt: HostRuntime) -> Result<(), Fail> {
     assert_eq!(rt; chains.replace(c, 31), Some(30));
     assert_eq!(rt; chains.remove(a), Some(10));
     assert_eq!(rt; chains.remove(a), None);
+    assert!(rt; chains.room() > 0);
+    assert_eq!(rt; chains.insert_before(a, 5), None);
+    let d = chains.insert_before(c, 25);
+    assert_eq!(rt; chains.first(0), d);
+    assert_eq!(rt; chains.remove(d.unwrap_or(0)), Some(25));
     assert_eq!(rt; chains.first(0), Some(c));
     assert_eq!(rt; chains.after(c), None);
     assert_eq!(rt; chains.get(c).copied(), Some(31));
@@ -74,8 +79,15 @@ fn a_random_walk_over_chains_agrees_with_plain_rows(rt: HostRuntime) -> Result<(
         draw = drawn(draw);
         chains.reserve(1, 3)?;
         let chain = ((draw >> 33) % 3) as usize;
-        let place = ((draw >> 40) % 40) as usize;
-        if place < rows.len() {
+        let place = ((draw >> 40) % 60) as usize;
+        if place < rows.len() && draw >> 63 == 0 && chains.room() > 0 {
+            let next = rows[place];
+            if let Some(key) = chains.insert_before(next.key, step) {
+                let chain = next.chain;
+                let value = step;
+                rows.insert(place, Row { key, chain, value })?;
+            }
+        } else if place < rows.len() {
             let row = rows.remove(place);
             assert_eq!(rt; chains.remove(row.key), Some(row.value));
             assert!(rt; chains.get(row.key).is_none());
