@@ -1,12 +1,12 @@
 -- What stands in a list of items after one was put before another, and what its links are then.
-use Rattle.std.proofs.Common.{◌≡◌, ◌≢◌, ◌<◌, ◌==◌, ℕ, cond, List, [], ◌∷◌, length, Option, Some, None, option_map, option_and_then, refl, ap, sym, ◌∙◌, ◌⊎◌, inl, inr}
+use Rattle.std.proofs.Common.{◌≡◌, ◌≢◌, ◌<◌, ◌==◌, ℕ, cond, List, [], ◌∷◌, length, Some, None, option_map, option_and_then, refl, ap, sym, ◌∙◌, ◌⊎◌, inl, inr}
 use Rattle.std.proofs.lemmas.Bool.{eq-eqb, eqb-true, eqb-false, ne_eqb, cases_eq}
 use Rattle.slab.specs.Slab.{Slab, get, Updates}
 use Rattle.sp_chain.specs.declared.node.Node.{Node}
 use Rattle.sp_chain.specs.declared.node.Ends.{Ends}
 use Rattle.sp_chain.specs.Items.{Item, chain_at, first_in, inserted_before, item_at, next_after}
 use Rattle.sp_chain.specs.Kept.{seen_in}
-use Rattle.sp_chain.specs.Links.{Distinct, GivesEnds, IsLast, Linked, Seen, SetsBefore, SetsBehind, end_at, item_in, item_of, past}
+use Rattle.sp_chain.specs.Links.{Distinct, GivesEnds, IsLast, Linked, Seen, SetsBefore, SetsBehind, end_at, item_of, past}
 use Rattle.sp_chain.proofs.Lists.{first_in-chain, key_cases, none-next, not-first, not-next, past_other, past_same, split}
 use Rattle.sp_chain.proofs.Moves.{Within, before-there}
 
@@ -17,19 +17,23 @@ module _ {T : Type 0} where
   placed (x ∷ later) next n = cond (x.key == next) (n ∷ x ∷ later) (x ∷ placed later next n)
 
   -- where it is of the same chain, that is what is put there
-  pub placed_in_chain : (L : List (Item T)) (next : ℕ) (n : Item T) → chain_at L next ≡ Some n.chain → inserted_before L next n.key n.value ≡ placed L next n
+  pub placed_in_chain : (L : List (Item T)) (next : ℕ) (n : Item T) → chain_at L next ≡ Some n.chain →
+      inserted_before L next n.key n.value ≡ placed L next n
   placed_in_chain [] next n h = refl
   placed_in_chain (x ∷ xs) next n h = split (x.key == next)
-      (λ e. let same : Some x.chain ≡ Some n.chain = rw e at h in let one : x.chain ≡ n.chain = cc in rw (e, one) refl)
+      (λ e. let same : Some x.chain ≡ Some n.chain = rw e at h in let one : x.chain ≡ n.chain = cc in
+      rw (e, one) refl)
       (λ e. rw e (ap (λ l. x ∷ l) (placed_in_chain xs next n (rw e at h))))
 
-  pub item_at-placed_other : (L : List (Item T)) (j : ℕ) (n : Item T) (k : ℕ) → n.key ≢ k → item_at (placed L j n) k ≡ item_at L k
+  pub item_at-placed_other : (L : List (Item T)) (j : ℕ) (n : Item T) (k : ℕ) → n.key ≢ k →
+      item_at (placed L j n) k ≡ item_at L k
   item_at-placed_other [] j n k ne = refl
   item_at-placed_other (x ∷ xs) j n k ne = split (x.key == j)
       (λ e. rw (e, ne_eqb n.key k ne) refl)
       (λ e. rw e (ap (λ o. cond (x.key == k) (Some x) o) (item_at-placed_other xs j n k ne)))
 
-  pub item_at-placed_same : (L : List (Item T)) (j : ℕ) (n : Item T) → item_at L n.key ≡ None → chain_at L j ≡ Some n.chain → item_at (placed L j n) n.key ≡ Some n
+  pub item_at-placed_same : (L : List (Item T)) (j : ℕ) (n : Item T) → item_at L n.key ≡ None →
+      chain_at L j ≡ Some n.chain → item_at (placed L j n) n.key ≡ Some n
   item_at-placed_same [] j n fresh h = absurd (cc)
   item_at-placed_same (x ∷ xs) j n fresh h = split (x.key == j)
       (λ e. rw (e, eq-eqb n.key n.key refl) refl)
@@ -37,15 +41,21 @@ module _ {T : Type 0} where
       (λ f. let gone = rw f at fresh in absurd (cc))
       (λ f. rw (e, f) (item_at-placed_same xs j n (rw f at fresh) (rw e at h))))
 
-  pub Distinct-placed : (L : List (Item T)) (j : ℕ) (n : Item T) → Distinct L → item_at L n.key ≡ None → Distinct (placed L j n)
+  pub Distinct-placed : (L : List (Item T)) (j : ℕ) (n : Item T) → Distinct L → item_at L n.key ≡ None →
+      Distinct (placed L j n)
   Distinct-placed [] j n d fresh = tt
   Distinct-placed (x ∷ xs) j n d fresh = split (x.key == j)
       (λ e. rw e (fresh, d))
       (λ e. split (x.key == n.key)
       (λ f. let gone = rw f at fresh in absurd (cc))
-      (λ f. rw e (item_at-placed_other xs j n x.key (λ same. eqb-false x.key n.key f (sym same)) ∙ d.0, Distinct-placed xs j n d.1 (rw f at fresh))))
+      (λ f. rw e (
+        item_at-placed_other xs j n x.key (λ same. eqb-false x.key n.key f (sym same))
+            ∙ d.0,
+        Distinct-placed xs j n d.1 (rw f at fresh),
+      )))
 
-  pub first_in-placed : (L : List (Item T)) (j : ℕ) (n : Item T) (c : ℕ) → Distinct L → chain_at L j ≡ Some n.chain → first_in (placed L j n) c ≡ past j (Some n.key) (first_in L c)
+  pub first_in-placed : (L : List (Item T)) (j : ℕ) (n : Item T) (c : ℕ) → Distinct L →
+      chain_at L j ≡ Some n.chain → first_in (placed L j n) c ≡ past j (Some n.key) (first_in L c)
   first_in-placed [] j n c d h = refl
   first_in-placed (x ∷ xs) j n c d h = split (x.key == j)
       (λ e.
@@ -59,7 +69,9 @@ module _ {T : Type 0} where
       (λ f. rw (e, f, e) refl)
       (λ f. rw (e, f) (first_in-placed xs j n c d.1 (rw e at h))))
 
-  pub next_after-placed_other : (L : List (Item T)) (j : ℕ) (n : Item T) (k : ℕ) → Distinct L → chain_at L j ≡ Some n.chain → n.key ≢ k → next_after (placed L j n) k ≡ past j (Some n.key) (next_after L k)
+  pub next_after-placed_other : (L : List (Item T)) (j : ℕ) (n : Item T) (k : ℕ) → Distinct L →
+      chain_at L j ≡ Some n.chain → n.key ≢ k →
+      next_after (placed L j n) k ≡ past j (Some n.key) (next_after L k)
   next_after-placed_other [] j n k d h ne = refl
   next_after-placed_other (x ∷ xs) j n k d h ne = split (x.key == j)
       (λ e.
@@ -71,7 +83,8 @@ module _ {T : Type 0} where
       (λ f. rw (e, f) (first_in-placed xs j n x.chain d.1 (rw e at h)))
       (λ f. rw (e, f) (next_after-placed_other xs j n k d.1 (rw e at h) ne)))
 
-  pub next_after-placed_same : (L : List (Item T)) (j : ℕ) (n : Item T) → item_at L n.key ≡ None → chain_at L j ≡ Some n.chain → next_after (placed L j n) n.key ≡ Some j
+  pub next_after-placed_same : (L : List (Item T)) (j : ℕ) (n : Item T) → item_at L n.key ≡ None →
+      chain_at L j ≡ Some n.chain → next_after (placed L j n) n.key ≡ Some j
   next_after-placed_same [] j n fresh h = absurd (cc)
   next_after-placed_same (x ∷ xs) j n fresh h = split (x.key == j)
       (λ e.
@@ -83,7 +96,10 @@ module _ {T : Type 0} where
       (λ f. rw (e, f) (next_after-placed_same xs j n (rw f at fresh) (rw e at h))))
 
   -- what led to the other leads to the new one, and nothing else changes
-  pub placed_cases : (L : List (Item T)) (j : ℕ) (n : Item T) (k : ℕ) → Distinct L → chain_at L j ≡ Some n.chain → n.key ≢ k → ((next_after L k ≡ Some j) × (next_after (placed L j n) k ≡ Some n.key)) ⊎ ((next_after L k ≢ Some j) × (next_after (placed L j n) k ≡ next_after L k))
+  pub placed_cases : (L : List (Item T)) (j : ℕ) (n : Item T) (k : ℕ) → Distinct L →
+      chain_at L j ≡ Some n.chain → n.key ≢ k →
+      ((next_after L k ≡ Some j) × (next_after (placed L j n) k ≡ Some n.key)) ⊎
+      ((next_after L k ≢ Some j) × (next_after (placed L j n) k ≡ next_after L k))
   placed_cases L j n k d h ne = elim (key_cases (next_after L k) j) [
     | inl e ↦ inl (e, next_after-placed_other L j n k d h ne ∙ past_same j _ _ e)
     | inr e ↦ inr (e, next_after-placed_other L j n k d h ne ∙ past_other j _ _ e)
@@ -104,23 +120,30 @@ module _ {T : Type 0} where
     pub first : (c : ℕ) → new.first c ≡ past j (Some n.key) (old.first c)
     pub last : (c : ℕ) → new.last c ≡ old.last c
 
-  pub linked-placed : (old new : Seen T) (n : Item T) (j : ℕ) (L : List (Item T)) → Linked old L → Placed old new n j → Linked new (placed L j n)
+  pub linked-placed : (old new : Seen T) (n : Item T) (j : ℕ) (L : List (Item T)) → Linked old L →
+      Placed old new n j → Linked new (placed L j n)
   linked-placed old new n j L s p =
       let i = n.key in
       let M = placed L j n in
       let fresh : item_at L i ≡ None = sym (s.item i) ∙ p.fresh in
-      let home : chain_at L j ≡ Some n.chain = ap (option_map (λ (x : Item T). x.chain)) (sym (s.item j)) ∙ p.home in
+      let home : chain_at L j ≡ Some n.chain = ap (option_map (λ (x : Item T). x.chain)) (sym (s.item j))
+      ∙ p.home in
       let homeless : chain_at L i ≡ None = ap (option_map (λ (x : Item T). x.chain)) fresh in
       let apart : i ≢ j = λ same. let a = ap (chain_at L) same in cc in
       let ends : next_after L i ≡ None = none-next L i fresh in
       let next_i : next_after M i ≡ Some j = next_after-placed_same L j n fresh home in
-      let cases : (k : ℕ) → i ≢ k → ((next_after L k ≡ Some j) × (next_after M k ≡ Some i)) ⊎ ((next_after L k ≢ Some j) × (next_after M k ≡ next_after L k)) = λ k ne. placed_cases L j n k s.distinct home ne in
-      let leads : (o k : ℕ) → next_after L o ≡ Some k → i ≢ o = λ o k led same. let a = ap (next_after L) same in cc in
-      let kept : (k : ℕ) → i ≢ k → chain_at M k ≡ chain_at L k = λ k ne. ap (option_map (λ (x : Item T). x.chain)) (item_at-placed_other L j n k ne) in
+      let cases : (k : ℕ) → i ≢ k → ((next_after L k ≡ Some j) × (next_after M k ≡ Some i)) ⊎
+      ((next_after L k ≢ Some j) × (next_after M k ≡ next_after L k)) =
+      λ k ne. placed_cases L j n k s.distinct home ne in
+      let leads : (o k : ℕ) → next_after L o ≡ Some k → i ≢ o = λ o k led same. let a =
+      ap (next_after L) same in cc in
+      let kept : (k : ℕ) → i ≢ k → chain_at M k ≡ chain_at L k =
+      λ k ne. ap (option_map (λ (x : Item T). x.chain)) (item_at-placed_other L j n k ne) in
       record {
         distinct = Distinct-placed L j n s.distinct fresh;
         item = λ k. elim (cases_eq i k) [
-          | inl e ↦ ap new.item (sym e) ∙ p.item_here ∙ sym (item_at-placed_same L j n fresh home) ∙ ap (item_at M) e
+          | inl e ↦ ap new.item (sym e) ∙ p.item_here ∙ sym (item_at-placed_same L j n fresh home)
+              ∙ ap (item_at M) e
           | inr ne ↦ p.item_else k ne ∙ s.item k ∙ sym (item_at-placed_other L j n k ne)
         ];
         behind = λ k. elim (cases_eq i k) [
@@ -197,11 +220,27 @@ module _ {T : Type 0} where
         );
       }
 
-  first-of-other : (s : Seen T) (L : List (Item T)) (j c d : ℕ) → Linked s L → chain_at L j ≡ Some d → c ≢ d → s.first c ≢ Some j
+  first-of-other : (s : Seen T) (L : List (Item T)) (j c d : ℕ) → Linked s L → chain_at L j ≡ Some d → c ≢ d →
+      s.first c ≢ Some j
   first-of-other s L j c d l home ne h =
       let there = first_in-chain L c j l.distinct (sym (l.first c) ∙ h) in ne (cc)
 
-  pub inserted : (old mid low new : Slab (Node T)) (ends later : List Ends) (key next : ℕ) (node : Node T) (value : T) (L : List (Item T)) → Linked (seen_in old.slots ends) L → get old next ≡ Some node → get old key ≡ None → Updates old mid key (Some (record { chain = node.chain; value = value; before = node.before; behind = Some next })) → SetsBehind mid.slots low.slots node.before (Some key) → SetsBefore low.slots new.slots (Some next) (Some key) → node.chain < length ends → GivesEnds ends later node.chain (record { first = past next (Some key) (end_at ends node.chain).first; last = (end_at ends node.chain).last }) → Linked (seen_in new.slots later) (inserted_before L next key value)
+  pub inserted : (old mid low new : Slab (Node T)) (ends later : List Ends) (key next : ℕ) (node : Node T)
+      (value : T) (L : List (Item T)) → Linked (seen_in old.slots ends) L → get old next ≡ Some node →
+      get old key ≡ None → Updates old mid key (Some (record {
+        chain = node.chain;
+        value = value;
+        before =
+            node.before;
+        behind = Some next;
+      })) → SetsBehind mid.slots low.slots node.before (Some key) →
+      SetsBefore low.slots new.slots (Some next) (Some key) → node.chain < length ends →
+      GivesEnds ends later node.chain (record {
+        first =
+            past next (Some key) (end_at ends node.chain).first;
+        last = (end_at ends node.chain).last;
+      }) →
+      Linked (seen_in new.slots later) (inserted_before L next key value)
   inserted old mid low new ends later key next node value L l was vacant u b f in_range e =
       let n : Item T = record { key = key; chain = node.chain; value = value } in
       let s = seen_in old.slots ends in
@@ -209,14 +248,18 @@ module _ {T : Type 0} where
       let fresh : s.item key ≡ None = ap (option_map (item_of key)) vacant in
       let before : s.before next ≡ node.before = ap (option_and_then (λ (x : Node T). x.before)) was in
       let there : s.item next ≡ Some (item_of next node) = ap (option_map (item_of next)) was in
-      let home : chain_at L next ≡ Some node.chain = ap (option_map (λ (x : Item T). x.chain)) (sym (l.item next) ∙ there) in
+      let home : chain_at L next ≡ Some node.chain =
+      ap (option_map (λ (x : Item T). x.chain)) (sym (l.item next) ∙ there) in
       let apart : key ≢ next = λ same. let a = ap s.item same in cc in
       let other : (k : ℕ) → key ≢ k → get mid k ≡ get old k = λ k ne. u.others k (λ same. ne (sym same)) in
-      let items : (k : ℕ) → key ≢ k → t.item k ≡ s.item k = λ k ne. f.items k ∙ b.items k ∙ ap (option_map (item_of k)) (other k ne) in
+      let items : (k : ℕ) → key ≢ k → t.item k ≡ s.item k = λ k ne. f.items k ∙ b.items k
+      ∙ ap (option_map (item_of k)) (other k ne) in
       let not_before : node.before ≢ Some key = λ h. before-there s L next key l (before ∙ h) fresh in
       let first_of : (c : ℕ) → t.first c ≡ past next (Some key) (s.first c) = λ c. elim (cases_eq c node.chain) [
-        | inl same ↦ ap t.first same ∙ ap (λ (x : Ends). x.first) (e.there in_range) ∙ ap (λ d. past next (Some key) (s.first d)) (sym same)
-        | inr ne ↦ ap (λ (x : Ends). x.first) (e.others c (λ same. ne (sym same))) ∙ sym (past_other next (Some key) (s.first c) (first-of-other s L next c node.chain l home ne))
+        | inl same ↦ ap t.first same ∙ ap (λ (x : Ends). x.first) (e.there in_range)
+            ∙ ap (λ d. past next (Some key) (s.first d)) (sym same)
+        | inr ne ↦ ap (λ (x : Ends). x.first) (e.others c (λ same. ne (sym same)))
+            ∙ sym (past_other next (Some key) (s.first c) (first-of-other s L next c node.chain l home ne))
       ] in
       let last_of : (c : ℕ) → t.last c ≡ s.last c = λ c. elim (cases_eq c node.chain) [
         | inl same ↦ ap t.last same ∙ ap (λ (x : Ends). x.last) (e.there in_range) ∙ ap s.last (sym same)
@@ -227,24 +270,36 @@ module _ {T : Type 0} where
         home = ap (option_map (λ (x : Item T). x.chain)) there;
         item_here = f.items key ∙ b.items key ∙ ap (option_map (item_of key)) u.changed;
         item_else = items;
-        behind_here = f.behind key ∙ b.others key not_before ∙ ap (option_and_then (λ (x : Node T). x.behind)) u.changed;
-        behind_before = λ k ne h. f.behind k ∙ b.there k (sym before ∙ h) (λ none. before-there s L next k l h (sym (ap (option_map (item_of k)) (other k ne)) ∙ none));
-        behind_else = λ k ne h. f.behind k ∙ b.others k (λ same. h (before ∙ same)) ∙ ap (option_and_then (λ (x : Node T). x.behind)) (other k ne);
-        before_here = f.others key (λ same. apart (cc)) ∙ b.before key ∙ ap (option_and_then (λ (x : Node T). x.before)) u.changed ∙ sym before;
-        before_next = f.there next refl (λ none. let a = sym (b.items next ∙ ap (option_map (item_of next)) (other next apart)) ∙ none in cc);
-        before_else = λ k ne away. f.others k (λ same. away (cc)) ∙ b.before k ∙ ap (option_and_then (λ (x : Node T). x.before)) (other k ne);
+        behind_here = f.behind key ∙ b.others key not_before
+            ∙ ap (option_and_then (λ (x : Node T). x.behind)) u.changed;
+        behind_before = λ k ne h. f.behind k
+            ∙ b.there k (sym before ∙ h) (λ none. before-there s L next k l h
+            (sym (ap (option_map (item_of k)) (other k ne)) ∙ none));
+        behind_else = λ k ne h. f.behind k ∙ b.others k (λ same. h (before ∙ same))
+            ∙ ap (option_and_then (λ (x : Node T). x.behind)) (other k ne);
+        before_here = f.others key (λ same. apart (cc)) ∙ b.before key
+            ∙ ap (option_and_then (λ (x : Node T). x.before)) u.changed ∙ sym before;
+        before_next = f.there next refl (λ none. let a =
+            sym (b.items next ∙ ap (option_map (item_of next)) (other next apart)) ∙ none in cc);
+        before_else = λ k ne away. f.others k (λ same. away (cc)) ∙ b.before k
+            ∙ ap (option_and_then (λ (x : Node T). x.before)) (other k ne);
         first = first_of;
         last = last_of;
       }))
 
-  pub within-inserted : (L : List (Item T)) (next key chain : ℕ) (value : T) (old new : ℕ) → chain_at L next ≡ Some chain → item_at L key ≡ None → Within L old → new ≡ old → Within (inserted_before L next key value) new
+  pub within-inserted : (L : List (Item T)) (next key chain : ℕ) (value : T) (old new : ℕ) →
+      chain_at L next ≡ Some chain → item_at L key ≡ None → Within L old → new ≡ old →
+      Within (inserted_before L next key value) new
   within-inserted L next key chain value old new home fresh w e k c there =
       let n : Item T = record { key = key; chain = chain; value = value } in
       let M = placed L next n in
       let here : chain_at M k ≡ Some c = ap (λ l. chain_at l k) (sym (placed_in_chain L next n home)) ∙ there in
       rw e (elim (cases_eq key k) [
         | inl same ↦
-            let mine : Some chain ≡ Some c = ap (option_map (λ (x : Item T). x.chain)) (sym (item_at-placed_same L next n fresh home)) ∙ ap (chain_at M) same ∙ here in
+            let mine : Some chain ≡ Some c =
+            ap (option_map (λ (x : Item T). x.chain)) (sym (item_at-placed_same L next n fresh home))
+            ∙ ap (chain_at M) same ∙ here in
             w next c (home ∙ mine)
-        | inr ne ↦ w k c (ap (option_map (λ (x : Item T). x.chain)) (sym (item_at-placed_other L next n k ne)) ∙ here)
+        | inr ne ↦ w k c (ap (option_map (λ (x : Item T). x.chain)) (sym (item_at-placed_other L next n k ne))
+            ∙ here)
       ])

@@ -78,7 +78,8 @@ impl<T> Chains<T> {
 
     /// The value under a key.
     pub fn get(&self, key: Key) -> Option<&T>
-        ensures { (L : List (Item T)) → Stands self.now L → option_copied result ≡ option_map (λ x. x.value) (item_at L key) }
+        ensures { (L : List (Item T)) → Stands self.now L →
+            option_copied result ≡ option_map (λ x. x.value) (item_at L key) }
     {
         match self.nodes.get(key) {
             Some(node) => Some(&node.value),
@@ -88,14 +89,16 @@ impl<T> Chains<T> {
 
     /// From `first` on, `after` leads through the chain's values in their order, and no others.
     pub fn walks(&self, chain: usize)
-        ensures { (L : List (Item T)) → Stands self.now L → Walks (first_in L chain) (next_after L) (map (λ x. x.key) (chain_of L chain)) }
+        ensures { (L : List (Item T)) → Stands self.now L →
+            Walks (first_in L chain) (next_after L) (map (λ x. x.key) (chain_of L chain)) }
     {}
 
     /// Appends a value to a chain where room is reserved, and gives the key under which it stands.
     pub fn append(&mut self, chain: usize, value: T) -> Key
         requires chain { chain < length self.old.ends }
         requires room { 0 < self.old.room }
-        ensures items { (L : List (Item T)) → Stands self.old L → Stands self.new (L ++ record { key = result; chain = chain; value = value } ∷ []) }
+        ensures items { (L : List (Item T)) → Stands self.old L →
+            Stands self.new (L ++ record { key = result; chain = chain; value = value } ∷ []) }
         ensures fresh { (L : List (Item T)) → Stands self.old L → item_at L result ≡ None }
         ensures bound { result < self.new.capacity }
         ensures capacity { self.new.capacity ≡ self.old.capacity }
@@ -165,7 +168,8 @@ impl<T> Chains<T> {
     /// Takes the value under a key out, and gives back its room. None where there is none; then
     /// nothing changes.
     pub fn remove(&mut self, key: Key) -> Option<T>
-        ensures value { (L : List (Item T)) → Stands self.old L → result ≡ option_map (λ x. x.value) (item_at L key) }
+        ensures value { (L : List (Item T)) → Stands self.old L →
+            result ≡ option_map (λ x. x.value) (item_at L key) }
         ensures items { (L : List (Item T)) → Stands self.old L → Stands self.new (without L key) }
         ensures room { OnSome result (self.new.room ≡ self.old.room + 1) }
         ensures kept { self.old.room ≤ self.new.room }
@@ -187,7 +191,8 @@ impl<T> Chains<T> {
     pub fn replace(&mut self, key: Key, value: T) -> Option<T>
     where
         T: Drop,
-        ensures value { (L : List (Item T)) → Stands self.old L → result ≡ option_map (λ x. x.value) (item_at L key) }
+        ensures value { (L : List (Item T)) → Stands self.old L →
+            result ≡ option_map (λ x. x.value) (item_at L key) }
         ensures items { (L : List (Item T)) → Stands self.old L → Stands self.new (with_value L key value) }
         ensures room { self.new.room ≡ self.old.room }
         ensures capacity { self.new.capacity ≡ self.old.capacity }

@@ -7,5 +7,8 @@ pub loop-back-preserved : goal.loop-back-preserved
 loop-back-preserved c =
     let i = c.loop-back.invariant in (
       length-set c.loop-back.inner _ c.earlier_child.result ∙ i.0,
-      behind_next c.loop-back.inner c.args.leaves.now c.loop-back.back c.earlier_child.result (omega (arith, c.loop-back-test.true)) i.0 c.earlier_child.ensures i.1,
+      behind_next c.loop-back.inner c.args.leaves.now c.loop-back.back c.earlier_child.result (omega (
+        arith,
+        c.loop-back-test.true,
+      )) i.0 c.earlier_child.ensures i.1,
     )
