@@ -4,9 +4,9 @@ use Rattle.std.proofs.lemmas.Bool.{eq-eqb, eqb-true, eqb-false, ne_eqb, cases_eq
 use Rattle.slab.specs.Slab.{Slab, get, Updates}
 use Rattle.sp_chain.specs.declared.node.Node.{Node}
 use Rattle.sp_chain.specs.declared.node.Ends.{Ends}
-use Rattle.sp_chain.specs.Items.{Item, chain_at, first_in, inserted_before, item_at, next_after}
+use Rattle.sp_chain.specs.Items.{IsLast, Item, chain_at, first_in, inserted_before, item_at, next_after}
 use Rattle.sp_chain.specs.Kept.{seen_in}
-use Rattle.sp_chain.specs.Links.{Distinct, GivesEnds, IsLast, Linked, Seen, SetsBefore, SetsBehind, end_at, item_of, past}
+use Rattle.sp_chain.specs.Links.{Distinct, GivesEnds, Linked, Seen, SetsBefore, SetsBehind, end_at, item_of, past}
 use Rattle.sp_chain.proofs.Lists.{first_in-chain, key_cases, none-next, not-first, not-next, past_other, past_same, split}
 use Rattle.sp_chain.proofs.Moves.{Within, before-there}
 

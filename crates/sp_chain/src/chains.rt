@@ -1,8 +1,10 @@
-ghost use Rattle.std.specs.Prelude.{◌≡◌, ◌≤◌, ◌<◌, ◌↔◌, ◌+◌, ◌++◌, ◌∷◌, [], None, if◌then◌else◌, is_some, IfSome, MatchOption, map, length, option_map, option_copied, OnOk, OnSome, List};
-ghost use Rattle.sp_chain.specs.Items.{Item, Walks, chain_of, item_at, first_in, inserted_before, next_after, without, with_value};
+ghost use Rattle.std.specs.Prelude.{◌≡◌, ◌≤◌, ◌<◌, ◌↔◌, ◌+◌, ◌++◌, ◌∷◌, [], None, Some, if◌then◌else◌, is_some, IfSome, MatchOption, map, length, option_map, option_copied, IsOk, OnOk, OnSome, List, ℕ};
+ghost use Rattle.sp_chain.specs.Items.{IsLast, Item, Walks, chain_of, item_at, first_in, inserted_before, next_after, without, with_value};
 ghost use Rattle.sp_chain.specs.Kept.{Stands};
 
-use crate::links::{ends_of, open_below, past, set_before, set_behind, set_ends, set_value};
+use crate::links::{
+    before_of, ends_of, open_below, past, set_before, set_behind, set_ends, set_value,
+};
 use crate::node::{Ends, Key, Node};
 use slab::Slab;
 use std::alloc::{AllocError, Global};
@@ -76,7 +78,23 @@ impl<T> Chains<T> {
         self.nodes.get(key)?.behind
     }
 
-    /// The value under a key.
+    /// The key of a chain's last value. None where the chain has none, or there is no such chain.
+    pub fn last(&self, chain: usize) -> Option<Key>
+        ensures { (L : List (Item T)) → Stands self.now L → (key : ℕ) → (result ≡ Some key) ↔ IsLast L chain key }
+    {
+        ends_of(&self.ends, chain).last
+    }
+
+    /// The key of the value of the same chain that comes right before. None before the first, and
+    /// where there is no value under the key.
+    pub fn before(&self, key: Key) -> Option<Key>
+        ensures { (L : List (Item T)) → Stands self.now L →
+            (other : ℕ) → (result ≡ Some other) ↔ (next_after L other ≡ Some key) }
+    {
+        before_of(&self.nodes, key)
+    }
+
+    /// The value under a key. None where there is none.
     pub fn get(&self, key: Key) -> Option<&T>
         ensures { (L : List (Item T)) → Stands self.now L →
             option_copied result ≡ option_map (λ x. x.value) (item_at L key) }
@@ -202,15 +220,19 @@ impl<T> Chains<T> {
     }
 
     /// Makes room for `nodes` more values, and chains of the numbers below `chains`. The values stay
-    /// as they were, also without memory.
+    /// as they were, also without memory. Where the room and the chains are there, it takes none.
     pub fn reserve(&mut self, nodes: usize, chains: usize) -> Result<(), AllocError>
         ensures items { (L : List (Item T)) → Stands self.old L → Stands self.new L }
         ensures room { OnOk result (nodes ≤ self.new.room) }
         ensures kept { self.old.room ≤ self.new.room }
         ensures capacity { self.old.capacity ≤ self.new.capacity }
         ensures chains { OnOk result (chains ≤ length self.new.ends) }
+        ensures prepared { nodes ≤ self.old.room → chains ≤ length self.old.ends → IsOk result }
         ensures chains_kept { length self.old.ends ≤ length self.new.ends }
     {
+        if nodes <= self.room() && chains <= self.chains() {
+            return Ok(());
+        }
         self.nodes.reserve(nodes)?;
         open_below(&mut self.ends, chains)
     }

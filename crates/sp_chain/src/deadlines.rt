@@ -1,4 +1,4 @@
-ghost use Rattle.std.specs.Prelude.{◌≡◌, ◌≤◌, ◌<◌, ℕ, [], length, slice_set, Option, Some, None, OnOk};
+ghost use Rattle.std.specs.Prelude.{◌≡◌, ◌≤◌, ◌<◌, ℕ, [], length, slice_set, Option, Some, None, IsOk, OnOk};
 ghost use Rattle.sp_chain.specs.Deadlines.{IsFirst, at};
 
 use crate::deadline::Deadline;
@@ -70,6 +70,7 @@ impl Deadlines {
         ensures deadlines { (place : ℕ) → at self.new place ≡ at self.old place }
         ensures places { OnOk result (places ≤ length self.new) }
         ensures kept { length self.old ≤ length self.new }
+        ensures prepared { places ≤ length self.old → IsOk result }
     {
         let old = self.leaves.len();
         if places <= old {

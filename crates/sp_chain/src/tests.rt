@@ -53,6 +53,8 @@ fn each_chain_keeps_its_order(rt: HostRuntime) -> Result<(), Fail> {
     let c = chains.append(0, 30);
     assert_eq!(rt; chains.first(0), Some(a));
     assert_eq!(rt; chains.after(a), Some(c));
+    assert_eq!(rt; chains.before(c), Some(a));
+    assert_eq!(rt; chains.last(0), Some(c));
     assert_eq!(rt; chains.replace(c, 31), Some(30));
     assert_eq!(rt; chains.remove(a), Some(10));
     assert_eq!(rt; chains.remove(a), None);
