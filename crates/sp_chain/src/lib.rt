@@ -1,5 +1,5 @@
-//! Containers for many values that take memory only where room is reserved, and in which a step costs
-//! the same among a thousand values and among a million.
+//! Containers for many values that take memory only where room is reserved, and in which no step walks
+//! over the other values or shifts them.
 #![tactic(auto)]
 
 pub mod chains;
