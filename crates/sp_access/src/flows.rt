@@ -144,6 +144,15 @@ impl Flows {
         self.rows.retain(|row| row.number != f);
     }
 
+    /// Takes out all flows. It takes no memory, and the next number stays.
+    pub fn unbind_all(&mut self)
+        ensures flows { self.new.flows ≡ [] }
+        ensures next { self.new.next ≡ self.old.next }
+        ensures room { self.old.room ≤ self.new.room }
+    {
+        self.rows.retain(|_| false);
+    }
+
     /// The flow of a number, where it is the caller's.
     pub fn find(&self, caller: &Name, number: FlowNo) -> Option<&Flow>
         ensures { option_copied result ≡ flow_of self.now.flows caller.now number }

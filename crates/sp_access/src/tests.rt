@@ -81,6 +81,8 @@ fn flows_come_and_go_in_order(rt: HostRuntime) -> Result<(), Fail> {
     );
     assert_eq!(rt; unbind(&mut flows, FlowNo::of(8)), true);
     assert_eq!(rt; (flows.len(), flows.count(first)), (2, 1));
+    flows.unbind_all();
+    assert_eq!(rt; (flows.len(), flows.count(first)), (0, 0));
     assert_eq!(rt; flows.next(), FlowNo::of(10));
     Ok(())
 }

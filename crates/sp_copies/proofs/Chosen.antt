@@ -5,7 +5,7 @@ use Rattle.std.proofs.lemmas.List.Elements.{All-cons, All-filter, All-head, All-
 use Rattle.std.proofs.lemmas.List.Kept.{AllPairs-cons, AllPairs-filter}
 use Rattle.sp_copies.specs.declared.made.MadeCopy.{MadeCopy}
 use Rattle.sp_copies.specs.Due.{by_deadline, due_copies, is_due, is_earlier, placed}
-use Rattle.sp_copies.specs.History.{History, copy_of, free_copies, has_come, held_copies, is_closed, is_free, is_held, is_held_by, is_made, is_open_in, is_spooled, open_copies}
+use Rattle.sp_copies.specs.History.{History, all_held, copy_of, free_copies, has_come, held_copies, is_closed, is_free, is_held, is_held_by, is_made, is_open_in, is_spooled, open_copies}
 use Rattle.sp_copies.specs.Sound.{IsSoundHistory}
 use Rattle.sp_copies.proofs.Marks.{eqb-turned}
 
@@ -142,6 +142,16 @@ held_is_held H flow = filter_passes (λ c. is_held_by H.held flow c.number) H.ma
 
 pub held_apart : (H : History) (flow : ℕ) → IsSoundHistory H → AllPairs Apart (held_copies H flow)
 held_apart H flow s = AllPairs-filter Apart (λ c. is_held_by H.held flow c.number) H.made (apart_made H s)
+
+-- copies that any flow holds
+pub all_held_among_made : (P : MadeCopy → Type 0) (H : History) → All P H.made → All P (all_held H)
+all_held_among_made P H all = All-filter (λ c. is_held H.held c.number) P H.made all
+
+pub all_held_is_held : (H : History) → All (λ c. is_held H.held c.number ≡ true) (all_held H)
+all_held_is_held H = filter_passes (λ c. is_held H.held c.number) H.made
+
+pub all_held_apart : (H : History) → IsSoundHistory H → AllPairs Apart (all_held H)
+all_held_apart H s = AllPairs-filter Apart (λ c. is_held H.held c.number) H.made (apart_made H s)
 
 -- copies that are free in an endpoint
 pub free_among_made : (P : MadeCopy → Type 0) (H : History) (endpoint : ℕ) → All P H.made →

@@ -89,6 +89,10 @@ held_copies H flow = filter (λ c. is_held_by H.held flow c.number) H.made
 abbrev pub held_by : History → ℕ → List ℕ
 held_by H flow = map (λ c. c.number) (held_copies H flow)
 
+-- the copies that any flow holds, in order of number
+abbrev pub all_held : History → List MadeCopy
+all_held H = filter (λ c. is_held H.held c.number) H.made
+
 -- a copy as it was made, where the flow holds it
 abbrev pub held_copy : History → ℕ → ℕ → Option MadeCopy
 held_copy H flow copy = if is_held_by H.held flow copy then copy_of H.made copy else None

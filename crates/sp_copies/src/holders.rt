@@ -110,6 +110,20 @@ pub fn held_copies(
         .collect(alloc)
 }
 
+/// The copies that any flow holds, in order of number.
+pub fn all_held(
+    alloc: Global,
+    made: &[MadeCopy],
+    held: &[HeldCopy],
+) -> Result<Vec<MadeCopy>, AllocError>
+    ensures { IfOk result (λ copies. copies.items ≡ filter (λ c. is_held held.now c.number) made.now) }
+{
+    made.iter()
+        .filter(|c| is_held(held, c.number))
+        .copied()
+        .collect(alloc)
+}
+
 /// The spooled copies of an endpoint that no flow holds.
 pub fn free_in(
     alloc: Global,

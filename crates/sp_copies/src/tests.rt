@@ -282,6 +282,8 @@ fn held_and_free_copies_as_they_were_made(rt: HostRuntime) -> Result<(), Fail> {
     let number = CopyNo::of(5);
     let held = copies.held_copies(alloc, seven)?;
     assert_eq!(rt; held.as_slice(), [fifth(queue)].as_slice());
+    let all = copies.all_held(alloc)?;
+    assert_eq!(rt; all.as_slice(), [fifth(queue)].as_slice());
     assert_eq!(rt; copies.held_copy(seven, number), Some(fifth(queue)));
     assert_eq!(rt; copies.held_copy(FlowNo::of(8), number), None);
     let free = copies.free_in(alloc, queue)?;

@@ -17,13 +17,13 @@ use Rattle.sp_ledger.specs.Changes.{Change}
 use Rattle.sp_ledger.specs.Events.{outcome, step}
 use Rattle.sp_ledger.specs.Ledger.{Ledger}
 use Rattle.sp_ledger.specs.Limits.{spent}
-use Rattle.sp_ledger.specs.Sound.{IsLedger}
-use Rattle.sp_ledger.specs.Step.{Check, Outcome, Step, begun, carried_out, decided, does, first_refusal, is_idle, is_unit, lacks, on_found, outcome_of, refused, unit_check}
+use Rattle.sp_ledger.specs.Sound.{IsSound}
+use Rattle.sp_ledger.specs.Step.{Check, Outcome, Step, always, begun, carried_out, decided, does, first_refusal, is_idle, is_unit, lacks, on_found, outcome_of, refused, unit_check}
 use Rattle.std.proofs.Common.{ap, arith, refl, subst, sym, ◌∙◌}
 use Rattle.std.proofs.lemmas.Bool.{leb-false}
 use Rattle.std.proofs.lemmas.Bool.Decides.{nat_tests}
 use Rattle.std.proofs.lemmas.List.Elements.{All-weaker}
-use Rattle.std.specs.Prelude.{Bool, Err, List, None, Ok, Option, Some, [], false, length, nat_le, suc, true, ℕ, ◌&&◌, ◌++◌, ◌+◌, ◌<◌, ◌==◌, ◌∷◌, ◌≡◌}
+use Rattle.std.specs.Prelude.{Bool, Err, List, None, Ok, Option, Some, [], false, length, nat_le, suc, true, ℕ, ◌&&◌, ◌++◌, ◌+◌, ◌<◌, ◌≤◌, ◌==◌, ◌∷◌, ◌≡◌}
 
 -- what is decided on what was found
 pub on_one : {X : Type 0} (L : Ledger) (found : Option X) (x : X) (refusal : Refusal) (s : X → Step) →
@@ -54,6 +54,8 @@ module _ (L B : Ledger) where
           decided r (carried_out changes reply B) ≡ carried_out plan.changes plan.reply B
       one (Some refusal) k = absurd (cc)
       one None k = let same : record { changes = changes; reply = reply } ≡ plan = cc in ap (λ (p : PlanState). carried_out p.changes p.reply B) same
+  outcome_planned (always changes reply) plan e =
+      let same : record { changes = changes; reply = reply } ≡ plan = cc in ap (λ (p : PlanState). carried_out p.changes p.reply B) same
 
   outcome_refused : (s : Step) (refusal : Refusal) → verdict L s ≡ Err refusal → outcome_of L B s ≡ refused refusal
   outcome_refused (lacks told) refusal e = let same : told ≡ refusal = cc in ap refused same
@@ -63,44 +65,46 @@ module _ (L B : Ledger) where
           decided r (carried_out changes reply B) ≡ refused refusal
       one (Some told) k = let same : told ≡ refusal = cc in ap refused same
       one None k = absurd (cc)
+  outcome_refused (always changes reply) refusal e = absurd (cc)
 
-  -- the changes of a step that is planned are allowed, and a number is left for the unit
+  -- the changes of a step that is planned are allowed
   planned_may : (s : Step) (plan : PlanState) → OnPassed (λ changes reply. AreAllowed changes B) s → verdict L s ≡ Ok plan →
-      AreAllowed plan.changes B × (is_unit plan.changes ≡ true → L.next.unit < spent)
+      AreAllowed plan.changes B
   planned_may (lacks refusal) plan h e = absurd (cc)
   planned_may (does checks changes reply) plan h e = one (first_refusal (checks ++ unit_check L changes ∷ [])) refl e
     where
-      left : (b : Bool) → (b && nat_le spent L.next.unit) ≡ false → b ≡ true → L.next.unit < spent
-      left true k is = leb-false spent L.next.unit k
-      left false k is = absurd (cc)
-
       one : (r : Option Refusal) → first_refusal (checks ++ unit_check L changes ∷ []) ≡ r →
-          judged r (record { changes = changes; reply = reply }) ≡ Ok plan →
-          AreAllowed plan.changes B × (is_unit plan.changes ≡ true → L.next.unit < spent)
+          judged r (record { changes = changes; reply = reply }) ≡ Ok plan → AreAllowed plan.changes B
       one (Some refusal) is k = absurd (cc)
       one None is k =
           let same : record { changes = changes; reply = reply } ≡ plan = cc in
           let both = passes-append checks (unit_check L changes ∷ []) (passes (checks ++ unit_check L changes ∷ []) is) in
-          subst (λ (p : PlanState). AreAllowed p.changes B × (is_unit p.changes ≡ true → L.next.unit < spent)) same
-          (h both.0, left (is_unit changes) both.1.0)
+          subst (λ (p : PlanState). AreAllowed p.changes B) same (h both.0)
+  planned_may (always changes reply) plan h e =
+      let same : record { changes = changes; reply = reply } ≡ plan = cc in
+      subst (λ (p : PlanState). AreAllowed p.changes B) same h
 
 -- each step's changes are allowed where it was begun
-allowed_step : (L : Ledger) → IsLedger L → (moment : ℕ) (caller : List ℕ) → is_caller caller ≡ true → (event : Event) →
+allowed_step : (L : Ledger) → IsSound L → (moment : ℕ) (caller : List ℕ) → is_caller caller ≡ true → (event : Event) →
     OnPassed (λ changes reply. AreAllowed changes (begun moment L)) (step caller event (begun moment L))
 allowed_step L s moment caller short event =
     let few = All-weaker (λ (a : CopyAttempts). a.count < L.next.unit) (λ (a : CopyAttempts). a.count + 1 < L.next.unit + 1)
-    (λ a lt. omega (arith, lt)) L.copies.attempts s.sound.copies.attempts in
-    step_allowed (begun moment L) (begun_sound moment L s.sound) caller short few event
+    (λ a lt. omega (arith, lt)) L.copies.attempts s.copies.attempts in
+    step_allowed (begun moment L) (begun_sound moment L s) caller short few event
 
 -- what is planned on each ledger for which the core stands is decided
 pub is_decided : (core : CoreState) (moment : ℕ) (caller : List ℕ) (event : Event) (plan : PlanState) → is_caller caller ≡ true →
     ((L : Ledger) → Stands core L → verdict L (step caller event (begun moment L)) ≡ Ok plan) →
+    (is_unit plan.changes ≡ true → core.next_unit ≤ spent) →
     IsDecided core caller event (record { moment = moment; changes = plan.changes; replies = plan.reply ∷ [] })
-is_decided core moment caller event plan short planned = record {
+is_decided core moment caller event plan short planned left = record {
   reply = plan.reply;
   told = refl;
   outcome = λ L s. outcome_planned L (begun moment L) (step caller event (begun moment L)) plan (planned L s);
-  may = λ L s. planned_may L (begun moment L) (step caller event (begun moment L)) plan (allowed_step L s.ledger moment caller short event) (planned L s);
+  may = λ L s. (
+    planned_may L (begun moment L) (step caller event (begun moment L)) plan (allowed_step L s.ledger.sound moment caller short event) (planned L s),
+    λ unit. subst (λ n. n ≤ spent) s.next_unit (left unit),
+  );
 }
 
 pub refused_so : (L : Ledger) (moment : ℕ) (caller : List ℕ) (event : Event) (refusal : Refusal) →

@@ -5,9 +5,9 @@ use Rattle.sp_base.specs.Declined.{Obeys}
 use Rattle.sp_base.specs.declared.declined.Declined.{Declined}
 use Rattle.sp_base.specs.declared.refusal.Refusal.{Refusal}
 use Rattle.sp_base.specs.declared.refusal.Refusal.TheVariants.{NotHeld, UnknownEndpoint, UnknownFlow}
-use Rattle.sp_copies.proofs.Chosen.{Apart, held_apart}
+use Rattle.sp_copies.proofs.Chosen.{Apart, all_held_apart, held_apart}
 use Rattle.sp_copies.specs.Due.{due_copies}
-use Rattle.sp_copies.specs.History.{held_copies, held_copy}
+use Rattle.sp_copies.specs.History.{all_held, held_copies, held_copy}
 use Rattle.sp_copies.specs.Kept.{Kept}
 use Rattle.sp_copies.specs.declared.closed.Cause.TheVariants.{Deleted}
 use Rattle.sp_copies.specs.declared.closed.Closing.TheVariants.{Discarded}
@@ -18,27 +18,27 @@ use Rattle.sp_core.specs.Decided.{judged, verdict}
 use Rattle.sp_endpoint.specs.Endpoint.{EndpointView}
 use Rattle.sp_endpoint.specs.Endpoints.{named, numbered}
 use Rattle.sp_ending.specs.Ends.{MayAll, MayEnd, MayReturn}
-use Rattle.sp_ending.specs.Plans.{delete_plan, expiry_plan, settle_plan, unbind_plan}
+use Rattle.sp_ending.specs.Plans.{delete_plan, expiry_plan, restart_plan, settle_plan, unbind_plan}
 use Rattle.sp_ending.specs.Tabled.{Tabled}
 use Rattle.sp_event.specs.declared.answer.CopyFate.{CopyFate}
 use Rattle.sp_event.specs.declared.answer.Reply.TheVariants as replies
 use Rattle.sp_event.specs.declared.request.Outcome.{Outcome}
 use Rattle.sp_ledger.proofs.CopiesKept.{kept_of}
 use Rattle.sp_ledger.proofs.EachKind.{begun_sound}
-use Rattle.sp_ledger.proofs.Steps.{due_differ, due_may, held_all_may, held_may}
-use Rattle.sp_ledger.specs.Changes.{changed, closes, holds, unbinds}
-use Rattle.sp_ledger.specs.Endings.{all_told, fate_by}
+use Rattle.sp_ledger.proofs.Steps.{all_held_may, due_differ, due_may, held_all_may, held_may}
+use Rattle.sp_ledger.specs.Changes.{changed, closes, holds, unbinds, unbinds_all}
+use Rattle.sp_ledger.specs.Endings.{all_told, fate_by, one_by_one, returning}
 use Rattle.sp_ledger.specs.Ledger.{Ledger, Published}
 use Rattle.sp_ledger.specs.Limits.{most_ended}
 use Rattle.sp_ledger.specs.OnCopies.{delete_copies, deleted, deletions, tick}
-use Rattle.sp_ledger.specs.OnFlows.{deliveries, given_back, pull, pulled, settle, settling, unbind}
+use Rattle.sp_ledger.specs.OnFlows.{all_given_back, deliveries, given_back, pull, pulled, restart, settle, settling, unbind}
 use Rattle.sp_ledger.specs.Sound.{IsSound}
-use Rattle.sp_ledger.specs.Step.{Step, begun, does, first_refusal, on_found, unit_check}
+use Rattle.sp_ledger.specs.Step.{Step, always, begun, does, first_refusal, on_found, unit_check}
 use Rattle.sp_plan.specs.Plan.{PlanState}
 use Rattle.std.proofs.Common.{ap, arith, refl, subst, sym, ◌∙◌}
 use Rattle.std.proofs.lemmas.List.Elements.{All-cons, All-nil}
 use Rattle.std.proofs.lemmas.List.Kept.{AllPairs-cons}
-use Rattle.std.specs.Prelude.{AllPairs, Err, List, None, Option, Result, Some, [], length, map, take, ℕ, ◌++◌, ◌-◌, ◌∷◌, ◌≡◌}
+use Rattle.std.specs.Prelude.{AllPairs, Err, List, None, Ok, Option, Result, Some, [], cond, false, length, map, take, true, ℕ, ◌++◌, ◌-◌, ◌==◌, ◌∷◌, ◌≡◌}
 
 -- the tables stand for the ledger in which a unit was begun
 pub begun_tabled : (rows : List EndpointView) (kept : Kept) (published : List Published) (moment : ℕ) (L : Ledger) →
@@ -65,6 +65,14 @@ module _ (moment : ℕ) (L : Ledger) (s : IsSound L) where
     sound = begun_sound moment L s;
     each = held_all_may B (begun_sound moment L s) flow;
     apart = held_apart B.copies flow (kept_of B (begun_sound moment L s)).history;
+  }
+
+  -- what all flows hold
+  pub all_held_may_all : MayAll MayReturn (all_held B.copies) B
+  all_held_may_all = record {
+    sound = begun_sound moment L s;
+    each = all_held_may B (begun_sound moment L s);
+    apart = all_held_apart B.copies (kept_of B (begun_sound moment L s)).history;
   }
 
   -- and one copy of it
@@ -187,6 +195,17 @@ module _ (L : Ledger) (result : Result PlanState (Declined Refusal)) (plan : Pla
     where
       on_endpoint : Ledger → EndpointView → Step
       on_endpoint M x = does [] (deletions M x copy) (replies.DeleteCopies x.name (all_told (deletions M x copy) M))
+
+-- where flows are bound, all that is held is given back by a restart
+pub restart_planned : (L : Ledger) (flows : List FlowView) → flows ≡ L.flows → (moment : ℕ) (held : List MadeCopy) →
+    held ≡ all_held L.copies → (length flows == 0) ≡ false →
+    verdict L (restart (begun moment L)) ≡ Ok (restart_plan held (begun moment L))
+restart_planned L flows same moment held those some =
+    let B = begun moment L in
+    ap (λ b. verdict L (always (cond b [] (all_given_back B)) replies.Restart))
+    (ap (λ (fs : List FlowView). length fs == 0) (sym same) ∙ some)
+    ∙ ap (λ (cs : List MadeCopy). verdict L (always (one_by_one returning cs B ++ unbinds_all ∷ []) replies.Restart))
+    (sym those)
 
 -- a copy that the flow doesn't hold is refused
 pub settle_unheld : (L : Ledger) (moment : ℕ) (caller : List ℕ) (flow copy : ℕ) (outcome : Outcome) (f : FlowView) →

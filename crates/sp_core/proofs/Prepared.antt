@@ -15,9 +15,10 @@ use Rattle.sp_ledger.specs.Changes.{Change}
 use Rattle.sp_ledger.specs.Events.{outcome, step}
 use Rattle.sp_plan.specs.Plan.{PlanState}
 use Rattle.sp_ledger.specs.Ledger.{Ledger}
-use Rattle.sp_ledger.specs.Step.{Outcome, begun, carried_out}
+use Rattle.sp_ledger.specs.Limits.{spent}
+use Rattle.sp_ledger.specs.Step.{Outcome, begun, carried_out, is_unit}
 use Rattle.std.proofs.Common.{arith, refl, subst, sym, ◌∙◌}
-use Rattle.std.specs.Prelude.{Err, List, Ok, true, [], ℕ, ◌∷◌, ◌≡◌}
+use Rattle.std.specs.Prelude.{Err, List, Ok, true, [], ℕ, ◌∷◌, ◌≡◌, ◌≤◌}
 
 pub roomier_self : (core : CoreState) → IsRoomier core core
 roomier_self core = record {
@@ -102,12 +103,12 @@ prepares_none old new same moment caller event = record {
 
 pub prepares_ready : (old new : CoreState) → IsRoomier old new → (moment : ℕ) (caller : List ℕ) (event : Event) (plan : PlanState) →
     is_caller caller ≡ true → ((L : Ledger) → Stands old L → verdict L (step caller event (begun moment L)) ≡ Ok plan) →
-    HasRoom new plan.changes →
+    (is_unit plan.changes ≡ true → old.next_unit ≤ spent) → HasRoom new plan.changes →
     Prepares old new moment caller event (Ok (record { moment = moment; changes = plan.changes; replies = plan.reply ∷ [] }))
-prepares_ready old new same moment caller event plan short planned room = record {
+prepares_ready old new same moment caller event plan short planned left room = record {
   same = same;
   still = still_prepared old new same;
   at = refl;
-  ready = record { decided = decided_still old new same caller event _ (is_decided old moment caller event plan short planned); room = room };
+  ready = record { decided = decided_still old new same caller event _ (is_decided old moment caller event plan short planned left); room = room };
   refused = tt;
 }

@@ -16,10 +16,10 @@ use Rattle.sp_endpoint.specs.Endpoints.{replaced, without_endpoint}
 use Rattle.sp_ledger.proofs.EachKind.{begun_sound, change_sound, units_after}
 use Rattle.sp_ledger.proofs.Moving.{move_counts}
 use Rattle.sp_ledger.specs.Allowed.{IsAllowed, IsShare, MayMove, MayPublish}
-use Rattle.sp_ledger.specs.Changes.{Change, becomes, binds, changed, closes, comes, frees, goes, holds, moves, publishes, unbinds, with_logged, with_message}
+use Rattle.sp_ledger.specs.Changes.{Change, becomes, binds, changed, closes, comes, frees, goes, holds, moves, publishes, unbinds, unbinds_all, with_logged, with_message}
 use Rattle.sp_ledger.specs.Ledger.{Ledger, Published}
 use Rattle.sp_ledger.specs.Limits.{spent}
-use Rattle.sp_ledger.specs.Sound.{IsLedger, IsSound}
+use Rattle.sp_ledger.specs.Sound.{IsCounted, IsSound}
 use Rattle.sp_ledger.specs.Step.{begun}
 use Rattle.sp_copies.specs.History.{used_bytes}
 use Rattle.sp_message.specs.declared.message.Message.{Message}
@@ -28,7 +28,7 @@ use Rattle.std.proofs.lemmas.List.Elements.{All-weaker}
 use Rattle.std.specs.Prelude.{Bool, List, [], false, max, true, ℕ, ◌++◌, ◌+◌, ◌<◌, ◌^◌, ◌∷◌, ◌≡◌, ◌≤◌}
 
 -- what holds between units holds after each change, and after a unit was begun
-change_ledger : (c : Change) (L : Ledger) → IsLedger L → IsAllowed c L → IsLedger (changed c L)
+change_ledger : (c : Change) (L : Ledger) → IsCounted L → IsAllowed c L → IsCounted (changed c L)
 change_ledger c L l may = record {
   sound = change_sound c L l.sound may;
   unit = let same = units_after (c ∷ []) L in let most = l.unit in omega (arith, same, most);
@@ -39,7 +39,7 @@ pub standing : (inside seen : CoreState) (L : Ledger) → inside ≡ seen → St
 standing inside seen L is s = subst (λ (k : CoreState). Stands k L) (sym is) s
 
 module _ (core : CoreState) (L : Ledger) (s : Stands core L) where
-  pub begins : (unit clock moment : ℕ) → L.next.unit < spent → unit ≡ core.next_unit + 1 → clock ≡ max core.clock moment →
+  pub begins : (unit clock moment : ℕ) → L.next.unit ≤ spent → unit ≡ core.next_unit + 1 → clock ≡ max core.clock moment →
       Stands (record core { next_unit = unit; clock = clock }) (begun moment L)
   begins unit clock moment left counted later = record {
     endpoints = s.endpoints;
@@ -92,7 +92,7 @@ module _ (core : CoreState) (L : Ledger) (s : Stands core L) where
     next_replay = s.next_replay;
     next_unit = s.next_unit;
     clock = s.clock;
-    ledger = subst IsLedger is (change_ledger c L s.ledger may);
+    ledger = subst IsCounted is (change_ledger c L s.ledger may);
   }
 
   pub went : (E : Roomy EndpointView) (n : ℕ) → IsAllowed (goes n) L → E.items ≡ without_endpoint n core.endpoints.items →
@@ -140,7 +140,7 @@ module _ (core : CoreState) (L : Ledger) (s : Stands core L) where
     next_replay = s.next_replay;
     next_unit = s.next_unit;
     clock = s.clock;
-    ledger = subst IsLedger is (change_ledger c L s.ledger may);
+    ledger = subst IsCounted is (change_ledger c L s.ledger may);
   }
 
   pub closed : (C : Kept) (copy : ℕ) (how : Closing) → IsAllowed (closes copy how) L →
@@ -221,6 +221,24 @@ module _ (core : CoreState) (L : Ledger) (s : Stands core L) where
     next_unit = s.next_unit;
     clock = s.clock;
     ledger = change_ledger (unbinds flow) L s.ledger may;
+  }
+
+  pub all_unbound : (F : FlowsView) → IsAllowed unbinds_all L → F.flows ≡ [] → F.next ≡ core.flows.next →
+      Stands (record core { flows = F }) (changed unbinds_all L)
+  all_unbound F may flows next = record {
+    endpoints = s.endpoints;
+    messages = s.messages;
+    copies = s.copies;
+    flows = flows;
+    log = s.log;
+    replays = s.replays;
+    next_endpoint = s.next_endpoint;
+    next_message = s.next_message;
+    next_flow = next ∙ s.next_flow;
+    next_replay = s.next_replay;
+    next_unit = s.next_unit;
+    clock = s.clock;
+    ledger = change_ledger unbinds_all L s.ledger may;
   }
 
 -- where a message may be published with these copies, they may be made

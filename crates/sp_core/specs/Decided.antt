@@ -1,5 +1,5 @@
 -- A unit that was decided, and what carrying it out gives.
-use Rattle.std.specs.Prelude.{◌≡◌, ◌<◌, ◌++◌, ◌∷◌, [], ⊤, ℕ, Err, IfErr, IfOk, List, None, Ok, Option}
+use Rattle.std.specs.Prelude.{◌≡◌, ◌≤◌, ◌++◌, ◌∷◌, [], ⊤, ℕ, Err, IfErr, IfOk, List, None, Ok, Option}
 use Rattle.std.specs.Prelude.{Result, Some, length, map, true}
 use Rattle.sp_base.specs.declared.declined.Declined.{Declined}
 use Rattle.sp_base.specs.declared.declined.Declined.TheVariants.{Refused, Memory}
@@ -19,7 +19,7 @@ use Rattle.sp_ledger.specs.Ledger.{Ledger}
 use Rattle.sp_ledger.specs.Limits.{spent}
 use Rattle.sp_ledger.specs.OnFlows.{new_flow, outdated, rebind_changes}
 use Rattle.sp_ledger.specs.Publish.{share_for, told_copies}
-use Rattle.sp_ledger.specs.Step.{Outcome, Step, accepted, begun, carried_out, does, first_refusal}
+use Rattle.sp_ledger.specs.Step.{Outcome, Step, accepted, always, begun, carried_out, does, first_refusal}
 use Rattle.sp_ledger.specs.Step.{idle, is_unit, lacks, refused, unit_check}
 use Rattle.sp_plan.specs.Plan.{PlanState}
 use Rattle.sp_message.specs.declared.message.Message.{Message}
@@ -34,6 +34,7 @@ abbrev pub verdict : Ledger → Step → Result PlanState Refusal
 verdict L (lacks refusal) = Err refusal
 verdict L (does checks changes reply) =
     judged (first_refusal (checks ++ unit_check L changes ∷ [])) (record { changes = changes; reply = reply })
+verdict L (always changes reply) = Ok (record { changes = changes; reply = reply })
 
 -- the plans of a bind and of a publish that aren't refused
 abbrev pub bind_plan : List ℕ → EndpointView → EndpointView → Option (List ℕ) → Ledger → PlanState
@@ -60,7 +61,7 @@ ledger_after moment (change ∷ more) L = all_changed (change ∷ more) (begun m
 
 -- the changes are allowed in the ledger that was begun, and where there are any, a number is left for the unit
 abbrev pub MayCarryOut : ℕ → List Change → Ledger → Type 0
-MayCarryOut moment changes L = AreAllowed changes (begun moment L) × (is_unit changes ≡ true → L.next.unit < spent)
+MayCarryOut moment changes L = AreAllowed changes (begun moment L) × (is_unit changes ≡ true → L.next.unit ≤ spent)
 
 -- on each ledger for which the core stands, the caller's event comes to these changes and this reply, and they are
 -- allowed there

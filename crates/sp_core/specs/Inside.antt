@@ -1,4 +1,5 @@
 -- What contracts see of a core's fields.
+use Rattle.std.specs.Prelude.{◌+◌}
 use Rattle.sp_core.specs.State.{CoreState}
 use Rattle.sp_core.specs.declared.state.Core.TheInside.{Inside}
 
@@ -11,6 +12,6 @@ core_state c = record {
   next_endpoint = c.next_endpoint;
   next_message = c.next_message;
   next_replay = c.next_replay;
-  next_unit = c.next_unit;
+  next_unit = c.last_unit + 1;
   clock = c.clock;
 }

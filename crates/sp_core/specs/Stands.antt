@@ -4,13 +4,13 @@ use Rattle.sp_copies.specs.Kept.{Records}
 use Rattle.sp_core.specs.State.{CoreState}
 use Rattle.sp_core.specs.declared.numbers.Numbers.{Numbers}
 use Rattle.sp_ledger.specs.Ledger.{Ledger, Log, empty_ledger}
-use Rattle.sp_ledger.specs.Sound.{IsLedger}
+use Rattle.sp_ledger.specs.Sound.{IsCounted}
 
 -- the replay log while it is off
 abbrev pub log_off : Log
 log_off = record { enabled = false; size = 0; quota = 2000; messages = [] }
 
--- part by part
+-- part by part, between two units and within one
 pub record Stands (core : CoreState) (L : Ledger) : Type 0 where
   pub endpoints : core.endpoints.items ≡ L.endpoints
   pub messages : core.messages.items ≡ L.messages
@@ -24,7 +24,7 @@ pub record Stands (core : CoreState) (L : Ledger) : Type 0 where
   pub next_replay : core.next_replay ≡ L.next.replay
   pub next_unit : core.next_unit ≡ L.next.unit
   pub clock : core.clock ≡ L.now
-  pub ledger : IsLedger L
+  pub ledger : IsCounted L
 
 -- there is a ledger for which it stands
 pub record IsCore (core : CoreState) : Type 0 where

@@ -4,6 +4,8 @@
 
 pub mod numbers;
 pub mod ready;
+#[cfg(test)]
+mod restart_tests;
 pub mod state;
 #[cfg(test)]
 mod tests;

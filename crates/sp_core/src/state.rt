@@ -50,7 +50,7 @@ pub struct Core {
     next_endpoint: EndpointNo,
     next_message: MessageNo,
     next_replay: ReplayNo,
-    next_unit: UnitNo,
+    last_unit: UnitNo,
     clock: Moment,
 }
 
@@ -82,7 +82,7 @@ impl Core {
             next_endpoint: EndpointNo::of(start.endpoint),
             next_message: MessageNo::of(start.message),
             next_replay: ReplayNo::of(start.replay),
-            next_unit: UnitNo::of(start.unit),
+            last_unit: UnitNo::of(start.unit - 1),
             clock: Moment::START,
         })
     }
@@ -112,7 +112,7 @@ impl Core {
     pub fn units(&self) -> u64
         ensures { (L : Ledger) → Stands self.now L → result ≡ L.next.unit - 1 }
     {
-        self.next_unit.value().saturating_sub(1)
+        self.last_unit.value()
     }
 
     /// The bytes that an endpoint's spooled copies use. None exactly where no endpoint has the
@@ -165,7 +165,7 @@ impl Core {
     fn unit_refusal(&self) -> Option<Refusal>
         ensures { (L : Ledger) → Stands self.now L → result ≡ first_refusal (is_spent L.next.unit Kind.Unit ∷ []) }
     {
-        if self.next_unit.value() >= SPENT {
+        if self.last_unit.value() + 1 >= SPENT {
             return Some(Refusal::IdsSpent { kind: Kind::Unit });
         }
         None

@@ -7,7 +7,7 @@ use Rattle.sp_copies.specs.declared.made.MadeCopy.{MadeCopy}
 use Rattle.sp_event.specs.declared.answer.CopyFate.{CopyFate}
 use Rattle.sp_event.specs.declared.answer.Reply.TheVariants as replies
 use Rattle.sp_event.specs.declared.request.Outcome.{Outcome}
-use Rattle.sp_ledger.specs.Changes.{closes, unbinds}
+use Rattle.sp_ledger.specs.Changes.{closes, unbinds, unbinds_all}
 use Rattle.sp_ledger.specs.Endings.{all_told, ending, fate_by, one_by_one, returning}
 use Rattle.sp_ledger.specs.Ledger.{Ledger}
 use Rattle.sp_ledger.specs.OnFlows.{settling}
@@ -30,6 +30,13 @@ unbind_plan flow held L =
       changes = changes ++ unbinds flow ∷ [];
       reply = replies.Unbind flow closed (length held - length closed);
     }
+
+-- a restart that gives these copies back
+abbrev pub restart_plan : List MadeCopy → Ledger → PlanState
+restart_plan held L = record {
+  changes = one_by_one returning held L ++ unbinds_all ∷ [];
+  reply = replies.Restart;
+}
 
 -- a settle of this copy
 abbrev pub settle_plan : Outcome → MadeCopy → Ledger → PlanState

@@ -3,7 +3,7 @@ ghost use Rattle.sp_copies.specs.declared.closed.Cause.TheVariants.{Deleted};
 ghost use Rattle.sp_copies.specs.declared.closed.Closing.TheVariants.{Accepted, Discarded};
 ghost use Rattle.sp_copies.specs.declared.closed.Fate.TheVariants as fates;
 ghost use Rattle.sp_ending.specs.Ends.{MayAll, MayEnd, MayReturn};
-ghost use Rattle.sp_ending.specs.Plans.{delete_plan, expiry_plan, first_fate, settle_plan, unbind_plan};
+ghost use Rattle.sp_ending.specs.Plans.{delete_plan, expiry_plan, first_fate, restart_plan, settle_plan, unbind_plan};
 ghost use Rattle.sp_ending.specs.Tabled.{Tabled};
 ghost use Rattle.sp_ledger.specs.Changes.{closes};
 ghost use Rattle.sp_ledger.specs.Endings.{fate_by};
@@ -73,6 +73,30 @@ pub fn unbind_plan(
             closed: told,
             returned,
         },
+    })
+}
+
+/// The plan of a restart: the copies that any flow holds are given back, and all flows go.
+pub fn restart_plan(
+    alloc: Global,
+    endpoints: &Endpoints,
+    copies: &Copies,
+    messages: &[Published],
+    held: &[MadeCopy],
+) -> Result<Plan, AllocError>
+    requires { (L : Ledger) × Tabled endpoints.now.items copies.now messages.now L × MayAll MayReturn held.now L }
+    ensures { IfOk result (λ plan. (L : Ledger) → Tabled endpoints.now.items copies.now messages.now L → MayAll MayReturn held.now L →
+        plan ≡ restart_plan held.now L) }
+{
+    let returned = all_given_back(alloc, endpoints, copies, messages, held)?;
+    let Ended {
+        mut changes,
+        told: _,
+    } = returned;
+    changes.push(Change::UnbindsAll)?;
+    Ok(Plan {
+        changes,
+        reply: Reply::Restart,
     })
 }
 

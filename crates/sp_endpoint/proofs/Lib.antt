@@ -1,2 +1,5 @@
+pub mod Indexes
+pub mod Lookup
 pub mod Order
 pub mod Places
+pub mod Renewals

@@ -1,5 +1,6 @@
 -- A stable sort by name and placing one after another lead to the same order.
-use Rattle.std.proofs.Common.{◌≡◌, ◌<◌, ℕ, Bool, true, false, not, ◌&&◌, cond, List, [], ◌∷◌, ◌++◌, map, refl, sym, ap, ◌∙◌, arith, append-nil, append_assoc, Bor}
+use Rattle.std.proofs.Common.{◌≡◌, ℕ, Bool, true, false, not, ◌&&◌, cond, List, [], ◌∷◌, ◌++◌, map, refl, sym, ap}
+use Rattle.std.proofs.Common.{◌∙◌, arith, append-nil, append_assoc, Bor}
 use Rattle.std.specs.Prelude.{All, AllPairs, filter, fold}
 use Rattle.std.specs.Cmp.{IsStrictWeakOrder}
 use Rattle.std.specs.List.Sorted.{IsSortedBy, IsStableBy, ties}
@@ -57,38 +58,51 @@ module _ {X : Type 0} (name : X → List ℕ) where
       one true is = λ i. not (is i) && not (before w v)
       one false is = absurd (let none : before x w ≡ false = weak.chain x v w low is in cc)
 
-  none_tied : (v x : X) (ws : List X) → before x v ≡ false → All (λ w. before x w ≡ true) ws → filter (ties before v) ws ≡ []
+  none_tied : (v x : X) (ws : List X) → before x v ≡ false → All (λ w. before x w ≡ true) ws →
+      filter (ties before v) ws ≡ []
   none_tied v x [] low all = refl
   none_tied v x (w ∷ ws) low all =
-      (λ i. cond (not_tied v x w low (All-head (λ u. before x u ≡ true) w ws all) i) (w ∷ filter (ties before v) ws) (filter (ties before v) ws))
+      (λ i. cond (not_tied v x w low (All-head (λ u. before x u ≡ true) w ws all) i) (w ∷ filter (ties before v) ws)
+      (filter (ties before v) ws))
       ∙ none_tied v x ws low (All-tail (λ u. before x u ≡ true) w ws all)
 
   -- the first of an ordered list comes behind nothing that ties with one of it
-  not_first : (y z : X) (zs rest : List X) → Ordered (z ∷ zs) → y ∷ rest ≡ filter (ties before y) (z ∷ zs) → before y z ≡ false
+  not_first : (y z : X) (zs rest : List X) → Ordered (z ∷ zs) → y ∷ rest ≡ filter (ties before y) (z ∷ zs) →
+      before y z ≡ false
   not_first y z zs rest order found = one (before y z) refl
     where
       one : (b : Bool) → before y z ≡ b → before y z ≡ false
       one false is = is
       one true is = absurd (
-          let none : filter (ties before y) (z ∷ zs) ≡ [] = none_tied y y (z ∷ zs) (itself y) (all_behind y z (z ∷ zs) is (All-cons (NotBefore z) z zs (itself z) (pairs_head NotBefore z zs order))) in
+          let none : filter (ties before y) (z ∷ zs) ≡ [] =
+          none_tied y y (z ∷ zs) (itself y)
+          (all_behind y z (z ∷ zs) is (All-cons (NotBefore z) z zs (itself z) (pairs_head NotBefore z zs order))) in
           let gone : y ∷ rest ≡ [] = found ∙ none in
           cc)
 
-  kept : (v x : X) (xs : List X) → ties before v x ≡ true → filter (ties before v) (x ∷ xs) ≡ x ∷ filter (ties before v) xs
+  kept : (v x : X) (xs : List X) → ties before v x ≡ true →
+      filter (ties before v) (x ∷ xs) ≡ x ∷ filter (ties before v) xs
   kept v x xs is = λ i. cond (is i) (x ∷ filter (ties before v) xs) (filter (ties before v) xs)
 
   -- two ordered lists in which what ties stands alike are one
-  same_order : (ys zs : List X) → Ordered ys → Ordered zs → ((v : X) → filter (ties before v) ys ≡ filter (ties before v) zs) → ys ≡ zs
+  same_order : (ys zs : List X) → Ordered ys → Ordered zs →
+      ((v : X) → filter (ties before v) ys ≡ filter (ties before v) zs) → ys ≡ zs
   same_order [] [] p q same = refl
-  same_order [] (z ∷ zs) p q same = absurd (let gone : [] ≡ z ∷ filter (ties before z) zs = same z ∙ kept z z zs (tied z z (itself z) (itself z)) in cc)
-  same_order (y ∷ ys) [] p q same = absurd (let gone : y ∷ filter (ties before y) ys ≡ [] = sym (kept y y ys (tied y y (itself y) (itself y))) ∙ same y in cc)
-  same_order (y ∷ ys) (z ∷ zs) p q same = λ i. first i ∷ same_order ys zs (pairs_tail NotBefore y ys p) (pairs_tail NotBefore z zs q) rest i
+  same_order [] (z ∷ zs) p q same =
+      absurd (let gone : [] ≡ z ∷ filter (ties before z) zs = same z ∙ kept z z zs (tied z z (itself z) (itself z))
+      in cc)
+  same_order (y ∷ ys) [] p q same =
+      absurd (let gone : y ∷ filter (ties before y) ys ≡ [] = sym (kept y y ys (tied y y (itself y) (itself y))) ∙
+      same y in cc)
+  same_order (y ∷ ys) (z ∷ zs) p q same =
+      λ i. first i ∷ same_order ys zs (pairs_tail NotBefore y ys p) (pairs_tail NotBefore z zs q) rest i
     where
       low : before y z ≡ false
       low = not_first y z zs (filter (ties before y) ys) q (sym (kept y y ys (tied y y (itself y) (itself y))) ∙ same y)
 
       high : before z y ≡ false
-      high = not_first z y ys (filter (ties before z) zs) p (sym (kept z z zs (tied z z (itself z) (itself z))) ∙ sym (same z))
+      high = not_first z y ys (filter (ties before z) zs) p
+          (sym (kept z z zs (tied z z (itself z) (itself z))) ∙ sym (same z))
 
       both : y ∷ filter (ties before y) ys ≡ z ∷ filter (ties before y) zs
       both = sym (kept y y ys (tied y y (itself y) (itself y))) ∙ same y ∙ kept y z zs (tied y z low high)
@@ -96,12 +110,16 @@ module _ {X : Type 0} (name : X → List ℕ) where
       first : y ≡ z
       first = let heads = both in cc
 
-      tails : (v : X) (b : Bool) → cond b (y ∷ filter (ties before v) ys) (filter (ties before v) ys) ≡ cond b (y ∷ filter (ties before v) zs) (filter (ties before v) zs) → filter (ties before v) ys ≡ filter (ties before v) zs
+      tails : (v : X) (b : Bool) →
+          cond b (y ∷ filter (ties before v) ys) (filter (ties before v) ys) ≡ cond b (y ∷ filter (ties before v) zs)
+          (filter (ties before v) zs) → filter (ties before v) ys ≡ filter (ties before v) zs
       tails v true h = cc
       tails v false h = h
 
       rest : (v : X) → filter (ties before v) ys ≡ filter (ties before v) zs
-      rest v = tails v (ties before v y) (same v ∙ (λ i. cond (ties before v (sym first i)) (sym first i ∷ filter (ties before v) zs) (filter (ties before v) zs)))
+      rest v = tails v (ties before v y)
+          (same v ∙ (λ i. cond (ties before v (sym first i)) (sym first i ∷ filter (ties before v) zs)
+          (filter (ties before v) zs)))
 
   -- an element is placed before the first that it comes before
   abbrev put : X → List X → List X
@@ -126,17 +144,25 @@ module _ {X : Type 0} (name : X → List ℕ) where
       one : (b : Bool) → before x y ≡ b → Ordered (put x ys) → Ordered (cond b (x ∷ y ∷ ys) (y ∷ put x ys))
       one true is later =
           let low : before y x ≡ false = weak.one_way x y is in
-          AllPairs-cons NotBefore x (y ∷ ys) (All-cons (NotBefore x) y ys low (All-weaker (NotBefore y) (NotBefore x) (λ w h. weak.chain w y x h low) ys above)) order
+          AllPairs-cons NotBefore x (y ∷ ys)
+          (All-cons (NotBefore x) y ys low
+          (All-weaker (NotBefore y) (NotBefore x) (λ w h. weak.chain w y x h low) ys above)) order
       one false is later = AllPairs-cons NotBefore y (put x ys) (put_all (NotBefore y) x ys is above) later
 
   -- where it is placed it stands behind all that tie with it
-  stable_put : (v x : X) (ys : List X) → Ordered ys → filter (ties before v) (put x ys) ≡ filter (ties before v) (ys ++ x ∷ [])
+  stable_put : (v x : X) (ys : List X) → Ordered ys →
+      filter (ties before v) (put x ys) ≡ filter (ties before v) (ys ++ x ∷ [])
   stable_put v x [] order = refl
   stable_put v x (y ∷ ys) order = one (before x y) refl (stable_put v x ys (pairs_tail NotBefore y ys order))
     where
-      last : (b : Bool) → ties before v x ≡ b → before x y ≡ true → cond b (x ∷ filter (ties before v) (y ∷ ys)) (filter (ties before v) (y ∷ ys)) ≡ filter (ties before v) (y ∷ ys) ++ cond b (x ∷ []) []
+      last : (b : Bool) → ties before v x ≡ b → before x y ≡ true →
+          cond b (x ∷ filter (ties before v) (y ∷ ys)) (filter (ties before v) (y ∷ ys)) ≡ filter (ties before v)
+          (y ∷ ys) ++ cond b (x ∷ []) []
       last true is first =
-          let none : filter (ties before v) (y ∷ ys) ≡ [] = none_tied v x (y ∷ ys) (tied_low is) (all_behind x y (y ∷ ys) first (All-cons (NotBefore y) y ys (itself y) (pairs_head NotBefore y ys order))) in
+          let none : filter (ties before v) (y ∷ ys) ≡ [] =
+          none_tied v x (y ∷ ys) (tied_low is)
+          (all_behind x y (y ∷ ys) first
+          (All-cons (NotBefore y) y ys (itself y) (pairs_head NotBefore y ys order))) in
           ap (λ us. x ∷ us) none ∙ ap (λ us. us ++ x ∷ []) (sym none)
         where
           tied_low : ties before v x ≡ true → before x v ≡ false
@@ -161,12 +187,14 @@ module _ {X : Type 0} (name : X → List ℕ) where
   ordered_all done [] order = order
   ordered_all done (x ∷ xs) order = ordered_all (put x done) xs (ordered_put x done order)
 
-  stable_all : (v : X) (done xs : List X) → Ordered done → filter (ties before v) (all_put done xs) ≡ filter (ties before v) (done ++ xs)
+  stable_all : (v : X) (done xs : List X) → Ordered done →
+      filter (ties before v) (all_put done xs) ≡ filter (ties before v) (done ++ xs)
   stable_all v done [] order = ap (filter (ties before v)) (sym (append-nil done))
   stable_all v done (x ∷ xs) order =
       stable_all v (put x done) xs (ordered_put x done order)
       ∙ filter-append (ties before v) (put x done) xs
-      ∙ ap (λ us. us ++ filter (ties before v) xs) (stable_put v x done order ∙ filter-append (ties before v) done (x ∷ []))
+      ∙ ap (λ us. us ++ filter (ties before v) xs)
+      (stable_put v x done order ∙ filter-append (ties before v) done (x ∷ []))
       ∙ append_assoc (filter (ties before v) done) (filter (ties before v) (x ∷ [])) (filter (ties before v) xs)
       ∙ ap (λ us. filter (ties before v) done ++ us) (sym (filter-append (ties before v) (x ∷ []) xs))
       ∙ sym (filter-append (ties before v) done (x ∷ xs))
@@ -188,16 +216,21 @@ seen_put : (e : Bor EndpointView) (fs : List (Bor EndpointView)) → seen (put n
 seen_put e [] = refl
 seen_put e (f ∷ fs) = one (is_before e.now.name f.now.name) (seen_put e fs)
   where
-    one : (b : Bool) → seen (put name_of e fs) ≡ placed e.now (seen fs) → seen (cond b (e ∷ f ∷ fs) (f ∷ put name_of e fs)) ≡ cond b (e.now ∷ f.now ∷ seen fs) (f.now ∷ placed e.now (seen fs))
+    one : (b : Bool) → seen (put name_of e fs) ≡ placed e.now (seen fs) →
+        seen (cond b (e ∷ f ∷ fs) (f ∷ put name_of e fs)) ≡ cond b (e.now ∷ f.now ∷ seen fs)
+        (f.now ∷ placed e.now (seen fs))
     one true later = refl
     one false later = ap (λ (gs : List EndpointView). f.now ∷ gs) later
 
-seen_all : (done es : List (Bor EndpointView)) → seen (all_put name_of done es) ≡ fold (λ before e. placed e before) (seen done) (seen es)
+seen_all : (done es : List (Bor EndpointView)) →
+    seen (all_put name_of done es) ≡ fold (λ before e. placed e before) (seen done) (seen es)
 seen_all done [] = refl
-seen_all done (e ∷ es) = seen_all (put name_of e done) es ∙ ap (λ (fs : List EndpointView). fold (λ before g. placed g before) fs (seen es)) (seen_put e done)
+seen_all done (e ∷ es) = seen_all (put name_of e done) es
+    ∙ ap (λ (fs : List EndpointView). fold (λ before g. placed g before) fs (seen es)) (seen_put e done)
 
 -- what a stable sort by name leaves of endpoints stands in the byte order of their names
-pub sorted_by_name : (es fs : List (Bor EndpointView)) → IsSortedBy (before name_of) fs → IsStableBy (before name_of) es fs → seen fs ≡ by_name (seen es)
+pub sorted_by_name : (es fs : List (Bor EndpointView)) → IsSortedBy (before name_of) fs →
+    IsStableBy (before name_of) es fs → seen fs ≡ by_name (seen es)
 sorted_by_name es fs sorted stable = ap seen (sorted_is_put name_of es fs sorted stable) ∙ seen_all [] es
 
 pub weak_by_name : IsStrictWeakOrder (before name_of)

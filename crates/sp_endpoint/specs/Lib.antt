@@ -1,4 +1,5 @@
 pub mod Endpoint
 pub mod Endpoints
+pub mod Index
 pub mod Inside
 pub mod Takers

@@ -3,6 +3,7 @@ ghost use Rattle.sp_config.specs.Attributes.{defaults};
 ghost use Rattle.sp_config.specs.Settings.{with_settings};
 ghost use Rattle.sp_endpoint.specs.Endpoint.{new_endpoint};
 ghost use Rattle.sp_endpoint.specs.Endpoints.{is_queue};
+ghost use Rattle.sp_endpoint.specs.Index.{is_plain, texts};
 ghost use Rattle.sp_topic.specs.Subscriptions.{has_text};
 
 use sp_base::name::Name;
@@ -141,6 +142,27 @@ impl Endpoint {
             topic: copy_of(alloc, topic)?,
             selector,
         })
+    }
+
+    /// The texts by which it takes topics: a queue's subscriptions, or a topic endpoint's topic.
+    pub fn texts(&self) -> &[Subscription]
+        ensures { result.now ≡ texts self.now.kind self.now }
+    {
+        match self.kind {
+            EndpointKind::Queue => self.subscriptions.as_slice(),
+            EndpointKind::TopicEndpoint => self.topic.as_slice(),
+        }
+    }
+
+    /// Whether it takes what its texts take: an exception as the topic of a topic endpoint takes what it
+    /// matches all the same.
+    pub fn is_plain(&self) -> bool
+        ensures { result ≡ is_plain self.now.kind self.now }
+    {
+        match (self.kind, &self.topic) {
+            (EndpointKind::TopicEndpoint, Some(topic)) => !topic.is_exception(),
+            _ => true,
+        }
     }
 
     /// Whether it is a queue.

@@ -3,6 +3,8 @@
 
 pub mod endpoint;
 pub mod endpoints;
+mod index;
+mod renewal;
 mod takers;
 #[cfg(test)]
 mod tests;

@@ -2,7 +2,7 @@
 ghost use Rattle.std.specs.Prelude.{◌≡◌, IfOk, OnOk, filter, map};
 ghost use Rattle.std.specs.Cmp.Lexicographic.{slice_cmp};
 ghost use Rattle.std.specs.Ordering.{nat_cmp};
-ghost use Rattle.sp_endpoint.specs.Takers.{by_name, is_matched, takers, takes_dest, takes_message, takes_topic};
+ghost use Rattle.sp_endpoint.specs.Takers.{by_name, is_matched, takes_dest, takes_message, takes_topic};
 
 use crate::endpoint::Endpoint;
 use sp_base::topic::Topic;
@@ -13,21 +13,8 @@ use sp_topic::subscription::Subscription;
 use std::alloc::{AllocError, Global};
 use std::cmp::Ordering;
 
-/// The endpoints that take a message, in the byte order of their names.
-pub fn in_order<'a>(
-    alloc: Global,
-    endpoints: &'a [Endpoint],
-    message: &Message,
-) -> Result<Vec<&'a Endpoint>, AllocError>
-    ensures { IfOk result (λ found. map (λ e. e.now) found.items ≡ takers endpoints.now message.now) }
-{
-    let mut found = among(alloc, endpoints, message)?;
-    sort(&mut found)?;
-    Ok(found)
-}
-
 /// The endpoints that take a message, in the order in which they stand.
-fn among<'a>(
+pub fn among<'a>(
     alloc: Global,
     endpoints: &'a [Endpoint],
     message: &Message,
@@ -41,7 +28,7 @@ fn among<'a>(
 }
 
 /// Puts endpoints in the byte order of their names.
-fn sort(endpoints: &mut Vec<&Endpoint>) -> Result<(), AllocError>
+pub fn sort(endpoints: &mut Vec<&Endpoint>) -> Result<(), AllocError>
     ensures { OnOk result (map (λ e. e.now) endpoints.new.items ≡ by_name (map (λ e. e.now) endpoints.old.items)) }
 {
     endpoints.sort_by(|a, b| compare_names(a, b))?;

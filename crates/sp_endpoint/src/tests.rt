@@ -76,6 +76,7 @@ fn subscribe(alloc: Global, endpoints: &mut Endpoints) -> Result<(), Fail> {
         return Ok(());
     }
     let row = first.with_subscription(alloc, &stays)?;
+    endpoints.reserve_for(&row)?;
     endpoints.replace(row);
     Ok(())
 }
@@ -116,5 +117,8 @@ fn endpoints_are_found_and_removed(rt: HostRuntime) -> Result<(), Fail> {
     endpoints.remove(EndpointNo::of(1));
     assert_eq!(rt; endpoints.len(), 1);
     assert_eq!(rt; endpoints.find_number(EndpointNo::of(1)).is_some(), false);
+    let left = [EndpointNo::of(2)];
+    let on_topic = takers_of(alloc, &endpoints, Dest::Topic(Topic::read(alloc, b"a/b")?))?;
+    assert_eq!(rt; on_topic.as_slice(), left.as_slice());
     Ok(())
 }

@@ -121,6 +121,8 @@ pub enum Reply {
         endpoint: Name,
         closed: Items<CopyFate>,
     },
+    /// The flows are gone; what became of the copies that they held isn't told.
+    Restart,
     Tally(Tally),
     /// The details are told of a copy that was made and whose closing, if any, is kept.
     Copy {

@@ -89,6 +89,9 @@ pub enum Event {
         endpoint: Name,
         copy: Option<CopyNo>,
     },
+    /// Every flow gives back what it holds, and goes: the flows of a spool don't outlive it. It is
+    /// never refused.
+    Restart,
 }
 
 /// A request that only looks.

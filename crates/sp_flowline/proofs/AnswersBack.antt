@@ -162,9 +162,10 @@ abbrev copy_reply : List ℕ → Members → Reply
 copy_reply word ms =
     if bytes_eq word (codes "tick") then replies.Tick (ends_of ms) else
     (if bytes_eq word (codes "delete") then replies.DeleteCopies (text (codes "endpoint") ms) (ends_of ms) else
+    (if bytes_eq word (codes "restart") then replies.Restart else
     (if bytes_eq word (codes "tally") then replies.Tally (tally_of ms) else
     (if bytes_eq word (codes "flows") then replies.Flows (text (codes "endpoint") ms) (flows_of ms) else
-    replies.Copy (num (codes "copy") ms) (fate_of ms) (details_of ms))))
+    replies.Copy (num (codes "copy") ms) (fate_of ms) (details_of ms)))))
 
 abbrev flow_reply : List ℕ → Members → Reply
 flow_reply word ms =
@@ -248,6 +249,7 @@ answer_back (Gave (replies.Tick closed)) unit h =
 answer_back (Gave (replies.DeleteCopies endpoint closed)) unit h =
     ap (λ (cs : List CopyFate). Gave (replies.DeleteCopies endpoint cs))
     (every_back fate_data ended_of ended_back closed)
+answer_back (Gave replies.Restart) unit h = refl
 answer_back (Gave (replies.Tally t)) unit h =
     ap (λ (cs : List CauseCount).
     Gave (replies.Tally (tally t.accepted cs t.discarded t.made t.moved t.spooled t.used)))

@@ -7,3 +7,4 @@ pub mod SettingsBack
 pub mod SettingsPicked
 pub mod TextBack
 pub mod Whole
+pub mod NoRestart

@@ -247,6 +247,7 @@ event_back (events.DeleteCopies endpoint (Some copy)) h =
     ap₂ (λ (name : Option (List ℕ)) (copy : Option ℕ). done (formed (option_and_then (λ endpoint.
     option_map (events.DeleteCopies endpoint) (option_map Some copy)) name)))
     (name_back endpoint h.0) (number_back copy h.1)
+event_back events.Restart h = absurd h
 
 pub read_back : RequestsReadBack
 read_back (Do event) h = event_back event h

@@ -30,6 +30,7 @@ reply (replies.Settle c fate) unit =
     (member (codes "ok") (string (codes "settle")) (member (codes "unit") (whole unit) no_members))) refl
 reply (replies.Tick cs) unit = rw (closed cs)
 reply (replies.DeleteCopies endpoint cs) unit = rw (closed cs)
+reply replies.Restart unit = refl
 reply (replies.Tally t) unit = rw (causes t.causes no_members refl)
 reply (replies.Flows endpoint fs) unit = rw (flows fs)
 reply (replies.Copy c fate details) unit =

@@ -50,6 +50,10 @@ delete_data endpoint closed unit = object
     (member (codes "ok") (string (codes "delete"))
     (member (codes "unit") (whole unit) no_members))))
 
+-- all flows are gone
+abbrev pub restart_data : ℕ → Data
+restart_data unit = object (member (codes "ok") (string (codes "restart")) (member (codes "unit") (whole unit) no_members))
+
 abbrev pub tally_data : Tally → ℕ → Data
 tally_data t unit = object
     (member (codes "accepted") (whole t.accepted)
@@ -83,6 +87,7 @@ reply_data (replies.Pull flow deliveries) unit = pull_data flow deliveries unit
 reply_data (replies.Settle copy fate) unit = settle_data copy fate unit
 reply_data (replies.Tick closed) unit = tick_data closed unit
 reply_data (replies.DeleteCopies endpoint closed) unit = delete_data endpoint closed unit
+reply_data replies.Restart unit = restart_data unit
 reply_data (replies.Tally tally) unit = tally_data tally unit
 reply_data (replies.Copy copy fate details) unit = copy_data copy fate details unit
 reply_data (replies.Flows endpoint flows) unit = bound_data endpoint flows unit

@@ -115,6 +115,8 @@ event_data (events.Settle flow copy outcome) =
 event_data events.Tick = object (of_op (codes "tick"))
 event_data (events.DeleteCopies endpoint copy) =
     object (with_copy copy (with_endpoint endpoint (of_op (codes "delete"))))
+-- a restart is no operation: it has no op, and can't be written
+event_data events.Restart = object no_members
 
 -- a query as it is written
 abbrev pub query_data : Query → Data
@@ -166,6 +168,7 @@ EventCanBeWritten (events.Settle flow copy outcome) = (flow ≤ 2 ^ 62) × (copy
 EventCanBeWritten events.Tick = ⊤
 EventCanBeWritten (events.DeleteCopies endpoint copy) =
     (is_name endpoint ≡ true) × IfSome copy (λ copy. copy ≤ 2 ^ 62)
+EventCanBeWritten events.Restart = ⊥
 
 abbrev pub CanBeWritten : Ask → Type 0
 CanBeWritten (Do event) = EventCanBeWritten event
@@ -176,3 +179,7 @@ CanBeWritten (Look (queries.Flows endpoint)) = is_name endpoint ≡ true
 -- each request that can be written is read back as itself
 abbrev pub RequestsReadBack : Type 0
 RequestsReadBack = (ask : Ask) → CanBeWritten ask → reading_of (request_data ask) ≡ Ok ask
+
+-- no value is read as a restart
+abbrev pub NoneIsARestart : Type 0
+NoneIsARestart = (d : Data) → reading_of d ≡ Ok (Do events.Restart) → ⊥

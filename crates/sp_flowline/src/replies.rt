@@ -1,7 +1,7 @@
 // Replies as JSON values.
 ghost use Rattle.std.specs.Prelude.{◌≡◌, IfOk};
 ghost use Rattle.serde_json.specs.View.{view};
-ghost use Rattle.sp_flowline.specs.Replies.{provision_data, endpoint_data, publish_data, tick_data, delete_data, tally_data, copy_data, reply_data};
+ghost use Rattle.sp_flowline.specs.Replies.{provision_data, endpoint_data, publish_data, tick_data, delete_data, restart_data, tally_data, copy_data, reply_data};
 
 use crate::flow_replies::{bind_value, bound_value, pull_value, settle_value, unbind_value};
 use serde_json::{Map, Value, json};
@@ -58,6 +58,12 @@ fn delete_value(
 {
     let closed = closed_value(alloc, closed)?;
     json!(in alloc; {"closed": closed, "endpoint": endpoint, "ok": "delete", "unit": unit})
+}
+
+fn restart_value(alloc: Global, unit: u64) -> Result<Value, AllocError>
+    ensures { IfOk result (λ v. view v ≡ restart_data unit) }
+{
+    json!(in alloc; {"ok": "restart", "unit": unit})
 }
 
 fn tally_value(alloc: Global, t: &Tally, unit: u64) -> Result<Value, AllocError>
@@ -124,6 +130,7 @@ pub fn reply_value(alloc: Global, reply: &Reply, unit: u64) -> Result<Value, All
         Reply::DeleteCopies { endpoint, closed } => {
             delete_value(alloc, endpoint.as_str(), closed.as_slice(), unit)
         }
+        Reply::Restart => restart_value(alloc, unit),
         Reply::Tally(tally) => tally_value(alloc, tally, unit),
         Reply::Copy {
             copy,

@@ -115,6 +115,7 @@ module _ (L : Ledger) where
   silent caller events.Tick = λ p. refl
   silent caller (events.DeleteCopies name copy) =
       passed_on_found {X = EndpointView} Silent (UnknownEndpoint name) _ (named name L.endpoints) (λ e found p. refl)
+  silent caller events.Restart = refl
 
 -- a reply without a tally
 no_tally : (reply : Reply) → told_tally reply ≡ None → TellsBalanced reply
@@ -125,8 +126,8 @@ module _ (L : Ledger) (moment : ℕ) (caller : List ℕ) (event : Event) (told :
   accepted_balanced M e =
       let B = begun moment L in
       where_accepted L B (λ m t. All TellsBalanced t) (step caller event B)
-      (passed_weaker (Silent B) (λ changes reply. L.next.unit < spent → All TellsBalanced (reply ∷ []))
-      (λ changes reply h lt. single TellsBalanced reply (no_tally reply h)) (step caller event B)
+      (passed_weaker (Silent B) (λ changes reply. All TellsBalanced (reply ∷ []))
+      (λ changes reply h. single TellsBalanced reply (no_tally reply h)) (step caller event B)
       (silent B caller event))
       M told e
 

@@ -1,18 +1,18 @@
 -- What a step comes to, from the checks that pass.
 use Rattle.sp_base.specs.declared.refusal.Refusal.{Refusal}
 use Rattle.sp_event.specs.declared.answer.Reply.{Reply}
-use Rattle.sp_ledger.specs.Allowed.{AreAllowed, changes_of}
+use Rattle.sp_ledger.specs.Allowed.{AreAllowed, HasNumber, changes_of}
 use Rattle.sp_ledger.specs.Changes.{Change, all_changed}
 use Rattle.sp_ledger.specs.Ledger.{Ledger}
 use Rattle.sp_ledger.specs.Limits.{spent}
-use Rattle.sp_ledger.specs.Step.{Check, Step, accepted, carried_out, decided, does, first_refusal, idle, is_unit}
+use Rattle.sp_ledger.specs.Step.{Check, Step, accepted, always, carried_out, decided, does, first_refusal, idle, is_unit}
 use Rattle.sp_ledger.specs.Step.{lacks, on_found, outcome_of, refused, unit_check, unless}
-use Rattle.std.proofs.Common.{ap, refl, subst, ◌∙◌}
+use Rattle.std.proofs.Common.{ap, arith, refl, subst, ◌∙◌}
 use Rattle.std.proofs.lemmas.Bool.{leb-false, lt-leb}
 use Rattle.std.proofs.lemmas.List.Elements.{All-cons, All-nil}
 use Rattle.std.specs.Option.{option_or}
 use Rattle.std.specs.Prelude.{All, Bool, List, None, Option, Some, [], cond, false, map, nat_le, true, ⊤, ◌&&◌, ◌++◌}
-use Rattle.std.specs.Prelude.{◌<◌, ◌∷◌, ◌≡◌}
+use Rattle.std.specs.Prelude.{◌<◌, ◌≤◌, ◌∷◌, ◌≡◌}
 
 -- no rule is broken
 abbrev pub Passes : List Check → Type 0
@@ -45,6 +45,13 @@ each_passes {X} check (x ∷ xs) p = All-cons (λ (y : X). (check y).broken ≡ 
 abbrev pub OnPassed : (List Change → Reply → Type 0) → Step → Type 0
 OnPassed P (lacks refusal) = ⊤
 OnPassed P (does checks changes reply) = Passes checks → P changes reply
+OnPassed P (always changes reply) = P changes reply
+
+-- what holds of the changes of a step that nothing refuses
+abbrev pub OnAlways : (List Change → Type 0) → Step → Type 0
+OnAlways P (lacks refusal) = ⊤
+OnAlways P (does checks changes reply) = ⊤
+OnAlways P (always changes reply) = P changes
 
 -- another fact of the same changes and reply
 pub passed_weaker : (P Q : List Change → Reply → Type 0) →
@@ -52,6 +59,7 @@ pub passed_weaker : (P Q : List Change → Reply → Type 0) →
     OnPassed Q s
 passed_weaker P Q w (lacks refusal) h = tt
 passed_weaker P Q w (does checks changes reply) h = λ p. w changes reply (h p)
+passed_weaker P Q w (always changes reply) h = w changes reply h
 
 -- where it holds on what was found, it holds
 pub passed_on_found :
@@ -59,6 +67,19 @@ pub passed_on_found :
     ((x : X) → found ≡ Some x → OnPassed P (s x)) → OnPassed P (on_found found refusal s)
 passed_on_found P refusal s None holds = tt
 passed_on_found P refusal s (Some x) holds = holds x refl
+
+pub always_on_found :
+    {X : Type 0} (P : List Change → Type 0) (refusal : Refusal) (s : X → Step) (found : Option X) →
+    ((x : X) → OnAlways P (s x)) → OnAlways P (on_found found refusal s)
+always_on_found P refusal s None holds = tt
+always_on_found P refusal s (Some x) holds = holds x
+
+pub always_unless : (P : List Change → Type 0) (check : Check) (s : Step) → OnAlways P s → OnAlways P (unless check s)
+always_unless P check s holds = one check.broken
+  where
+    one : (b : Bool) → OnAlways P (cond b (lacks check.refusal) s)
+    one true = tt
+    one false = holds
 
 pub passed_unless : (P : List Change → Reply → Type 0) (check : Check) (s : Step) → OnPassed P s →
     OnPassed P (unless check s)
@@ -68,6 +89,10 @@ passed_unless P check s holds = one check.broken
     one true = tt
     one false = holds
 
+-- a number that isn't spent is one after which flows may be bound
+pub has_number : (L M : Ledger) → L.next.unit < spent → HasNumber L M
+has_number L M lt = record { number = omega (arith, lt); last = λ le. absurd (omega (arith, lt, le)) }
+
 module _ (L B : Ledger) where
   carried : (changes : List Change) (reply : Reply) (M : Ledger) (told : List Reply) →
       carried_out changes reply B ≡ accepted M told →
@@ -76,9 +101,9 @@ module _ (L B : Ledger) where
   carried (c ∷ cs) reply M told e = let ledger : all_changed (c ∷ cs) B ≡ M = cc in let replies :
       reply ∷ [] ≡ told = cc in (refl, ledger, replies)
 
-  -- what is accepted is what the changes leave, and the unit's number isn't spent
+  -- what is accepted is what the changes leave
   pub where_accepted : (P : Ledger → List Reply → Type 0) (s : Step) →
-      OnPassed (λ changes reply. L.next.unit < spent → P (all_changed changes B) (reply ∷ [])) s →
+      OnPassed (λ changes reply. P (all_changed changes B) (reply ∷ [])) s →
       (M : Ledger) (told : List Reply) → outcome_of L B s ≡ accepted M told → P M told
   where_accepted P (lacks refusal) holds M told e = absurd (cc)
   where_accepted P (does checks changes reply) holds M told e =
@@ -91,10 +116,36 @@ module _ (L B : Ledger) where
           let done = carried changes reply M told k in
           let both = passes-append checks (unit_check L changes ∷ [])
           (passes (checks ++ unit_check L changes ∷ []) is) in
+          subst (λ m. P m told) done.1 (subst (λ t. P (all_changed changes B) t) done.2 (holds both.0))
+  where_accepted P (always changes reply) holds M told e =
+      let done = carried changes reply M told e in
+      subst (λ m. P m told) done.1 (subst (λ t. P (all_changed changes B) t) done.2 holds)
+
+  -- and the unit has its number, where it has one in a step that nothing refuses
+  pub number_left : (s : Step) →
+      OnAlways (λ changes. is_unit changes ≡ true → HasNumber L (all_changed changes B)) s →
+      (M : Ledger) (told : List Reply) → outcome_of L B s ≡ accepted M told → HasNumber L M
+  number_left (lacks refusal) holds M told e = absurd (cc)
+  number_left (does checks changes reply) holds M told e =
+      one (first_refusal (checks ++ unit_check L changes ∷ [])) refl e
+    where
+      one : (refusal : Option Refusal) → first_refusal (checks ++ unit_check L changes ∷ []) ≡ refusal →
+          decided refusal (carried_out changes reply B) ≡ accepted M told → HasNumber L M
+      one (Some refusal) is k = absurd (cc)
+      one None is k =
+          let done = carried changes reply M told k in
+          let both = passes-append checks (unit_check L changes ∷ [])
+          (passes (checks ++ unit_check L changes ∷ []) is) in
           let unit : nat_le spent L.next.unit ≡ false =
           subst (λ b. (b && nat_le spent L.next.unit) ≡ false) done.0 both.1.0 in
-          subst (λ m. P m told) done.1
-          (subst (λ t. P (all_changed changes B) t) done.2 (holds both.0 (leb-false spent L.next.unit unit)))
+          has_number L M (leb-false spent L.next.unit unit)
+  number_left (always changes reply) holds M told e =
+      let done = carried changes reply M told e in subst (HasNumber L) done.1 (holds done.0)
+
+  nothing : (changes : List Change) (reply : Reply) (told : List Reply) → carried_out changes reply B ≡ idle told →
+      (changes ≡ []) × (reply ∷ [] ≡ told)
+  nothing [] reply told k = let replies : reply ∷ [] ≡ told = cc in (refl, replies)
+  nothing (c ∷ cs) reply told k = absurd (cc)
 
   -- what is idle changes nothing
   pub where_idle : (P : List Reply → Type 0) (s : Step) →
@@ -104,18 +155,16 @@ module _ (L B : Ledger) where
   where_idle P (does checks changes reply) holds told e =
       one (first_refusal (checks ++ unit_check L changes ∷ [])) refl e
     where
-      nothing : (changes : List Change) → carried_out changes reply B ≡ idle told → (changes ≡ []) × (reply ∷ [] ≡ told)
-      nothing [] k = let replies : reply ∷ [] ≡ told = cc in (refl, replies)
-      nothing (c ∷ cs) k = absurd (cc)
-
       one : (refusal : Option Refusal) → first_refusal (checks ++ unit_check L changes ∷ []) ≡ refusal →
           decided refusal (carried_out changes reply B) ≡ idle told → P told
       one (Some refusal) is k = absurd (cc)
       one None is k =
-          let done = nothing changes k in
+          let done = nothing changes reply told k in
           let both = passes-append checks (unit_check L changes ∷ [])
           (passes (checks ++ unit_check L changes ∷ []) is) in
           subst P done.1 (holds both.0 done.0)
+  where_idle P (always changes reply) holds told e =
+      let done = nothing changes reply told e in subst P done.1 (holds done.0)
 
   -- whatever is accepted is what changes leave
   pub left_by : (s : Step) (M : Ledger) (told : List Reply) → outcome_of L B s ≡ accepted M told →
@@ -127,6 +176,7 @@ module _ (L B : Ledger) where
           (changes : List Change) × (all_changed changes B ≡ M)
       one (Some refusal) k = absurd (cc)
       one None k = (changes, (carried changes reply M told k).1)
+  left_by (always changes reply) M told e = (changes, (carried changes reply M told e).1)
 
   -- where no check is broken, the changes are carried out
   pub carried_out_where : (checks : List Check) (changes : List Change) (reply : Reply) →
@@ -156,6 +206,7 @@ module _ (L B : Ledger) where
             (passes-append checks (unit_check L changes ∷ []) (passes (checks ++ unit_check L changes ∷ []) is)).0,
         (carried changes reply M told k).1,
       )
+  parts_of (always changes reply) may M told e = (may, (carried changes reply M told e).1)
 
 -- the first refusal of two lists
 pub first-append : (xs ys : List Check) → first_refusal (xs ++ ys) ≡ option_or (first_refusal xs) (first_refusal ys)

@@ -114,7 +114,7 @@ module _ (L : Ledger) (moment : ℕ) (caller name : List ℕ) (selector topic : 
   B = begun moment L
 
   abbrev NoneOpen : List Change → Reply → Type 0
-  NoneOpen changes reply = L.next.unit < spent → open_copies (all_changed changes B).copies e.number ≡ []
+  NoneOpen changes reply = open_copies (all_changed changes B).copies e.number ≡ []
 
   abbrev to : EndpointView → EndpointView
   to x = rebound x selector topic
@@ -170,5 +170,5 @@ module _ (L : Ledger) (moment : ℕ) (caller name : List ℕ) (selector topic : 
       where_accepted L B (λ N t. open_copies N.copies e.number ≡ []) (bind caller name selector topic B)
       (passed_unless NoneOpen (topic_check topic) (on_found (named name L.endpoints) (UnknownEndpoint name) _)
       (passed_on_found {X = EndpointView} NoneOpen (UnknownEndpoint name) _ (named name L.endpoints)
-      (λ x is p lt. after_bind other x (ap (λ o. unwrap_or o e) (sym found ∙ is)))))
+      (λ x is p. after_bind other x (ap (λ o. unwrap_or o e) (sym found ∙ is)))))
       M told done

@@ -1,4 +1,5 @@
 -- Each kind of change, where it is allowed, keeps a ledger sound.
+use Rattle.sp_access.specs.Activity.{flows_of, is_first}
 use Rattle.sp_access.specs.Flows.{flow_count, without_flow}
 use Rattle.sp_access.specs.Flow.{FlowView}
 use Rattle.sp_base.specs.Name.{is_caller}
@@ -26,18 +27,18 @@ use Rattle.sp_ledger.specs.Allowed.{AreAllowed, HasTurn, IsAllowed, IsShare, May
 use Rattle.sp_ledger.specs.Allowed.{MayRepeat, MayStart}
 use Rattle.sp_ledger.specs.Changes.{Change, Share, all_changed, all_shared, binds, becomes, changed, closes, comes}
 use Rattle.sp_ledger.specs.Changes.{ends, frees, goes, goes_on, holds, logs, moves, publishes, repeats, starts}
-use Rattle.sp_ledger.specs.Changes.{unbinds, with_message}
+use Rattle.sp_ledger.specs.Changes.{unbinds, unbinds_all, with_message}
 use Rattle.sp_ledger.specs.Ledger.{Ledger, Published, Replay}
 use Rattle.sp_ledger.specs.Limits.{greatest_quota}
 use Rattle.sp_ledger.specs.One.{is_bound_for, is_by_move}
 use Rattle.sp_ledger.specs.Sound.{AreReplays, IsSound, has_endpoint, movable_count, suits_flow}
 use Rattle.sp_ledger.specs.Step.{begun}
-use Rattle.sp_ledger.specs.Turns.{IsInTurn}
+use Rattle.sp_ledger.specs.Turns.{IsInTurn, is_in}
 use Rattle.sp_message.specs.Size.{size_of}
 use Rattle.sp_message.specs.declared.message.Message.{Message}
 use Rattle.std.proofs.Common.{ap, arith, le_trans, refl, subst, sym, ◌∙◌}
 use Rattle.std.proofs.lemmas.Bool.{eq-eqb, eqb-true}
-use Rattle.std.proofs.lemmas.List.Elements.{All-filter, All-map, All-push, All-weaker}
+use Rattle.std.proofs.lemmas.List.Elements.{All-filter, All-map, All-nil, All-push, All-weaker}
 use Rattle.std.proofs.lemmas.List.Kept.{AllPairs-filter}
 use Rattle.std.proofs.lemmas.List.Quantifiers.{all_pairs_push}
 use Rattle.std.specs.List.{list_any}
@@ -240,6 +241,32 @@ unbinds_sound L flow s none =
         ap not (subst (λ n. (n == flow) ≡ false) (sym same) other))
         L.flows is
 
+-- all flows go where none of them holds anything
+unbinds_all_sound : (L : Ledger) → IsSound L → L.copies.held ≡ [] → IsSound (changed unbinds_all L)
+unbinds_all_sound L s none =
+    sound_of (changed unbinds_all L)
+    (kept_among L.flows L.endpoints L.messages L.next.endpoint L.next.unit [] L.endpoints L.messages
+    L.next.endpoint L.next.unit L.copies (kept_of L s)
+    (on_none (λ h. IsTrue (is_bound_for [] L.copies.made h)))
+    s.one.open_there (λ c is. is) (omega arith) (omega arith))
+    s.copies.next s.endpoints s.messages
+    (record {
+      rise = λ i j d lt le. absurd (omega (arith, le));
+      below = All-nil (λ (a : FlowView). a.number < L.next.flow);
+      there = All-nil (λ (a : FlowView). IsTrue (has_endpoint L.endpoints a));
+      callers = All-nil (λ (a : FlowView). IsTrue (is_caller a.caller));
+    })
+    s.replays s.logged s.next
+    (All-weaker (IsInTurn L.flows L.copies) (IsInTurn [] L.copies)
+    (λ e t. record {
+      first = λ exclusive. on_none (λ h. is_in L.copies.made e.number h ≡ true →
+          is_first (flows_of [] e.number) h.flow ≡ true);
+      alone = t.alone;
+    }) L.endpoints s.turns)
+  where
+    on_none : (P : HeldCopy → Type 0) → All P L.copies.held
+    on_none P = subst (All P) (sym none) (All-nil P)
+
 -- a replay makes a copy
 repeats_sound : (L : Ledger) (c : NewCopy) → IsSound L → MayRepeat L c → IsSound (changed (repeats c) L)
 repeats_sound L c s may =
@@ -341,6 +368,7 @@ change_sound (frees copy) L s may =
     (λ e t. turn_let_go L.flows e L.copies (with_given_back copy L.copies) copy refl refl t)
 change_sound (binds f) L s may = binds_sound L f s may
 change_sound (unbinds flow) L s may = unbinds_sound L flow s may.1
+change_sound unbinds_all L s may = unbinds_all_sound L s may
 change_sound (starts r) L s may = starts_sound L r s may
 change_sound (goes_on r) L s may =
     sound_of (changed (goes_on r) L) (kept_of L s) s.copies.next s.endpoints s.messages s.flows
@@ -375,6 +403,7 @@ unit_after (holds copy flow) L = refl
 unit_after (frees copy) L = refl
 unit_after (binds f) L = refl
 unit_after (unbinds flow) L = refl
+unit_after unbinds_all L = refl
 unit_after (starts r) L = refl
 unit_after (goes_on r) L = refl
 unit_after (ends replay) L = refl

@@ -69,5 +69,6 @@ empty_sound next copy are unit some few = record {
     next = are;
     turns = none {X = EndpointView} _;
   };
-  unit = unit;
+  unit = omega (arith, unit);
+  unbound = λ above. refl;
 }

@@ -1,6 +1,6 @@
 -- What a flow gives back it holds no more.
 use Rattle.sp_copies.proofs.Marks.{eqb-turned}
-use Rattle.sp_copies.specs.History.{History, held_by, held_copies, is_held, is_held_by, is_made, is_spooled, let_go, with_given_back}
+use Rattle.sp_copies.specs.History.{History, all_held, held_by, held_copies, is_held, is_held_by, is_made, is_spooled, let_go, with_given_back}
 use Rattle.sp_copies.specs.Sound.{IsSoundHistory}
 use Rattle.sp_copies.specs.declared.held.HeldCopy.{HeldCopy}
 use Rattle.sp_copies.specs.declared.made.MadeCopy.{MadeCopy}
@@ -8,7 +8,7 @@ use Rattle.sp_ledger.proofs.Listed.{list_any-map, All-both, All-kept, and_both, 
 use Rattle.sp_ledger.proofs.Listed.{any_self, any_weaker, not_true, pairs_head, pairs_tail}
 use Rattle.std.proofs.Common.{ap, arith, refl, subst, sym, ◌∙◌}
 use Rattle.std.proofs.lemmas.Bool.{eq-eqb, eqb-true}
-use Rattle.std.proofs.lemmas.List.Elements.{All-filter, All-map, All-weaker}
+use Rattle.std.proofs.lemmas.List.Elements.{All-filter, All-head, All-map, All-weaker}
 use Rattle.std.proofs.lemmas.List.Kept.{AllPairs-cons, AllPairs-filter}
 use Rattle.std.specs.List.{list_any}
 use Rattle.std.specs.Prelude.{All, AllPairs, Bool, IsTrue, List, [], false, filter, fold, map, not, true}
@@ -90,3 +90,33 @@ none_held H flow s =
         is_among (held_by H flow) h.copy ≡ false → (b : Bool) → (h.flow == flow) ≡ b → (h.flow == flow) ≡ false
     others h mine away false is = is
     others h mine away true is = absurd (let in_it = mine is in cc)
+
+-- each held copy is among all that are held
+held_among_all : (H : History) → IsSoundHistory H → All (λ h. is_among (numbers (all_held H)) h.copy ≡ true) H.held
+held_among_all H s =
+    All-weaker (λ (h : HeldCopy). IsTrue (is_spooled H h.copy)
+    × ((h.copy == h.copy) ≡ true → is_held H.held h.copy ≡ true))
+    (λ (h : HeldCopy). is_among (numbers (all_held H)) h.copy ≡ true)
+    (λ h p.
+    kept_number h.copy (λ c. is_held H.held c.number)
+    (λ c e. subst (λ k. is_held H.held k ≡ true) (sym (eqb-true _ _ e)) (p.1 (eq-eqb h.copy h.copy refl))) H.made
+    (and_left (is_made H.made h.copy) _ p.0))
+    H.held
+    (All-both (λ (h : HeldCopy). IsTrue (is_spooled H h.copy))
+    (λ (h : HeldCopy). (h.copy == h.copy) ≡ true → is_held H.held h.copy ≡ true)
+    H.held s.held_spooled (any_self {X = HeldCopy} (λ h x. x.copy == h.copy) H.held))
+
+-- flows that let go of all that they held hold nothing
+pub all_gone : (H : History) → IsSoundHistory H → all_let_go (all_held H) H.held ≡ []
+all_gone H s =
+    none_there (all_let_go (all_held H) H.held)
+    (still_held (λ (h : HeldCopy). is_among (numbers (all_held H)) h.copy ≡ true) (all_held H) H.held
+    (held_among_all H s))
+  where
+    none_there : (hs : List HeldCopy) →
+        All (λ h. (is_among (numbers (all_held H)) h.copy ≡ true) × (is_among (numbers (all_held H)) h.copy ≡ false)) hs →
+        hs ≡ []
+    none_there [] all = refl
+    none_there (h ∷ hs) all = absurd (let both = All-head (λ (x : HeldCopy).
+        (is_among (numbers (all_held H)) x.copy ≡ true) × (is_among (numbers (all_held H)) x.copy ≡ false)) h hs all in
+        let yes = both.0 in let no_more = both.1 in cc)

@@ -13,7 +13,7 @@ use Rattle.sp_ledger.proofs.Decided.{left_by}
 use Rattle.sp_ledger.proofs.Listed.{any_grows}
 use Rattle.sp_ledger.specs.Changes.{Change, Share, all_changed, all_shared, binds, becomes, changed, closes, comes}
 use Rattle.sp_ledger.specs.Changes.{ends, frees, goes, goes_on, holds, logs, moves, publishes, repeats, starts}
-use Rattle.sp_ledger.specs.Changes.{unbinds, with_share}
+use Rattle.sp_ledger.specs.Changes.{unbinds, unbinds_all, with_share}
 use Rattle.sp_ledger.specs.Events.{outcome, step}
 use Rattle.sp_ledger.specs.Ledger.{Ledger}
 use Rattle.sp_ledger.specs.Step.{accepted, begun}
@@ -78,6 +78,7 @@ change_extends (holds copy flow) L = same_extends L (changed (holds copy flow) L
 change_extends (frees copy) L = same_extends L (changed (frees copy) L) refl refl
 change_extends (binds f) L = same_extends L (changed (binds f) L) refl refl
 change_extends (unbinds flow) L = same_extends L (changed (unbinds flow) L) refl refl
+change_extends unbinds_all L = same_extends L (changed unbinds_all L) refl refl
 change_extends (starts r) L = same_extends L (changed (starts r) L) refl refl
 change_extends (goes_on r) L = same_extends L (changed (goes_on r) L) refl refl
 change_extends (ends replay) L = same_extends L (changed (ends replay) L) refl refl

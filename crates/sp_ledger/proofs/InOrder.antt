@@ -136,6 +136,7 @@ module _ (L : Ledger) (s : IsSound L) where
   all_in_order caller events.Tick = λ p. tt
   all_in_order caller (events.DeleteCopies name copy) =
       passed_on_found {X = EndpointView} InOrder (UnknownEndpoint name) _ (named name L.endpoints) (λ e found p. tt)
+  all_in_order caller events.Restart = tt
 
 module _ (L : Ledger) (s : IsLedger L) (moment : ℕ) (caller : List ℕ) (event : Event) (told : List Reply) where
   pub accepted_in_order : (M : Ledger) → outcome moment caller event L ≡ accepted M told →
@@ -143,9 +144,8 @@ module _ (L : Ledger) (s : IsLedger L) (moment : ℕ) (caller : List ℕ) (event
   accepted_in_order M e =
       let B = begun moment L in
       where_accepted L B (λ m t. All (HandsOutInOrder B) t) (step caller event B)
-      (passed_weaker (InOrder B (begun_sound moment L s.sound)) (λ changes reply. L.next.unit < spent →
-      All (HandsOutInOrder B) (reply ∷ []))
-      (λ changes reply h lt. single (HandsOutInOrder B) reply h) (step caller event B)
+      (passed_weaker (InOrder B (begun_sound moment L s.sound)) (λ changes reply. All (HandsOutInOrder B) (reply ∷ []))
+      (λ changes reply h. single (HandsOutInOrder B) reply h) (step caller event B)
       (all_in_order B (begun_sound moment L s.sound) caller event))
       M told e
 

@@ -21,6 +21,7 @@ pub mod HandedOut
 pub mod TurnsTaken
 pub mod OneKind
 pub mod Ended
+pub mod Numbered
 pub mod Steps
 -- What the other laws say.
 pub mod Fates

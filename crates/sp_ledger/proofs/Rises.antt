@@ -9,6 +9,7 @@ use Rattle.sp_copies.specs.declared.made.MadeCopy.{MadeCopy}
 use Rattle.sp_endpoint.specs.Endpoint.{EndpointView}
 use Rattle.sp_endpoint.specs.Endpoints.{named, numbered, queue_named}
 use Rattle.sp_endpoint.specs.Takers.{takers}
+use Rattle.sp_event.specs.declared.answer.Reply.{Reply}
 use Rattle.sp_event.specs.declared.request.Event.{Event}
 use Rattle.sp_event.specs.declared.request.Event.TheVariants as events
 use Rattle.sp_ledger.specs.Changes.{Change, publishes}
@@ -17,7 +18,7 @@ use Rattle.sp_ledger.specs.Ledger.{Ledger}
 use Rattle.sp_ledger.specs.OnFlows.{topic_check}
 use Rattle.sp_ledger.specs.Publish.{quota_check, share_for}
 use Rattle.sp_ledger.specs.Rising.{NeverFall, checks_of}
-use Rattle.sp_ledger.specs.Step.{Check, Step, begun, carried_out, decided, does, first_refusal, lacks, on_found}
+use Rattle.sp_ledger.specs.Step.{Check, Step, always, begun, carried_out, decided, does, first_refusal, lacks, on_found}
 use Rattle.sp_ledger.specs.Step.{outcome_of, refused, rule, unit_check, unless}
 use Rattle.sp_message.specs.Size.{size_of}
 use Rattle.sp_message.specs.declared.message.Message.{Message}
@@ -98,6 +99,7 @@ module _ (L : Ledger) where
   step_rises caller events.Tick B = (omega arith, tt)
   step_rises caller (events.DeleteCopies name copy) B =
       rise_found {X = EndpointView} (UnknownEndpoint name) _ (named name B.endpoints) (λ e. (omega arith, tt))
+  step_rises caller events.Restart B = tt
 
 -- along such checks each number is at least the one before all
 abbrev AtLeast : ℕ → Check → Type 0
@@ -126,6 +128,11 @@ least_told least (c ∷ cs) h refusal e = one (least_told (number_of c.refusal) 
 
 -- so what a step is refused is the least
 module _ (L B : Ledger) where
+  -- what is carried out isn't refused
+  never : (changes : List Change) (reply : Reply) (refusal : Refusal) → carried_out changes reply B ≡ refused refusal → ⊥
+  never [] reply refusal k = cc
+  never (c ∷ cs) reply refusal k = cc
+
   refused_least : (s : Step) → NeverFall 0 (checks_of L s) → (refusal : Refusal) →
       outcome_of L B s ≡ refused refusal → All (AtLeast (number_of refusal)) (checks_of L s)
   refused_least (lacks other) rise refusal e =
@@ -136,17 +143,14 @@ module _ (L B : Ledger) where
   refused_least (does checks changes reply) rise refusal e =
       one (first_refusal (checks ++ unit_check L changes ∷ [])) refl e
     where
-      never : (changes : List Change) → carried_out changes reply B ≡ refused refusal → ⊥
-      never [] k = cc
-      never (c ∷ cs) k = cc
-
       one : (first : Option Refusal) → first_refusal (checks ++ unit_check L changes ∷ []) ≡ first →
           decided first (carried_out changes reply B) ≡ refused refusal →
           All (AtLeast (number_of refusal)) (checks ++ unit_check L changes ∷ [])
       one (Some other) is k =
           let same : other ≡ refusal = cc in
           least_told 0 (checks ++ unit_check L changes ∷ []) rise refusal (is ∙ ap (λ r. Some r) same)
-      one None is k = absurd (never changes k)
+      one None is k = absurd (never changes reply refusal k)
+  refused_least (always changes reply) rise refusal e = absurd (never changes reply refusal e)
 
 pub event_least : (L : Ledger) (moment : ℕ) (caller : List ℕ) (event : Event) (refusal : Refusal) →
     outcome moment caller event L ≡ refused refusal →

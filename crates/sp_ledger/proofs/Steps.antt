@@ -11,10 +11,10 @@ use Rattle.sp_config.specs.Settings.{with_settings}
 use Rattle.sp_config.specs.declared.kind.EndpointKind.{EndpointKind}
 use Rattle.sp_config.specs.declared.setting.Setting.{Setting}
 use Rattle.sp_copies.specs.Counts.{spooled_count}
-use Rattle.sp_copies.proofs.Chosen.{Apart, apart_take, due_among_made, due_apart, due_is_free, free_apart, held_among_made}
+use Rattle.sp_copies.proofs.Chosen.{Apart, all_held_among_made, all_held_apart, all_held_is_held, apart_take, due_among_made, due_apart, due_is_free, free_apart, held_among_made}
 use Rattle.sp_copies.proofs.Chosen.{held_apart, held_is_held}
 use Rattle.sp_copies.specs.Due.{due_copies}
-use Rattle.sp_copies.specs.History.{History, copy_of, free_copies, held_copies, held_copy, is_free, is_held, is_held_by, is_made}
+use Rattle.sp_copies.specs.History.{History, all_held, copy_of, free_copies, held_copies, held_copy, is_free, is_held, is_held_by, is_made}
 use Rattle.sp_copies.specs.History.{is_open_in, is_spooled, open_copies, used_bytes}
 use Rattle.sp_copies.specs.declared.closed.Cause.TheVariants.{Deleted, TopicChanged}
 use Rattle.sp_copies.specs.declared.closed.Closing.TheVariants as closings
@@ -33,30 +33,32 @@ use Rattle.sp_event.specs.declared.request.Outcome.TheVariants as outcomes
 use Rattle.sp_ledger.proofs.Chosen.{pairs_made}
 use Rattle.sp_ledger.proofs.CopiesKept.{kept_of}
 use Rattle.sp_ledger.proofs.Decided.{OnPassed, Passes, each_passes, passed_on_found, passed_unless, passed_weaker}
-use Rattle.sp_ledger.proofs.Decided.{parts_of, passes-append, where_accepted}
+use Rattle.sp_ledger.proofs.Decided.{number_left, parts_of, passes-append, where_accepted}
 use Rattle.sp_ledger.proofs.EachKind.{begun_sound, changes_sound, units_after}
 use Rattle.sp_ledger.proofs.Ended.{MayEnd, MayReturn, ending_allowed, endings_allowed, returning_allowed}
 use Rattle.sp_ledger.proofs.Ended.{returns_allowed, returns_flows, returns_let_go}
 use Rattle.sp_ledger.proofs.EndpointsKept.{has_endpoint_in_place}
 use Rattle.sp_ledger.proofs.Fields.{allowed_keep_ranges, endpoint_found, may_become, new_suits, quota_below}
 use Rattle.sp_ledger.proofs.Fields.{flow_suits, settings_suit, shares_no_other, shares_own, texts_suit, topic_suits}
-use Rattle.sp_ledger.proofs.GivenBack.{none_held}
+use Rattle.sp_ledger.proofs.GivenBack.{all_gone, none_held}
 use Rattle.sp_ledger.proofs.HandedOut.{in_endpoint, pulled_free, pulled_in, pulled_made, pulled_rise, pulled_taken}
 use Rattle.sp_ledger.proofs.Listed.{All-any, All-both, All-find, All-kept, and_both, and_left, and_right}
 use Rattle.sp_ledger.proofs.Listed.{any_found, any_self, any_weaker, find_passes, lesser_is_not, none_found, not_false}
+use Rattle.sp_ledger.proofs.Numbered.{step_has_number}
 use Rattle.sp_ledger.proofs.OneByOne.{allowed_append}
 use Rattle.sp_ledger.proofs.OneKind.{close_allowed, closes_all, hold_allowed}
 use Rattle.sp_ledger.proofs.TurnsTaken.{found_by_key, own_key, turn_taken}
 use Rattle.sp_ledger.proofs.Taken.{takers_all, takers_apart}
 use Rattle.sp_ledger.specs.Allowed.{AreAllowed, HasTurn, IsAllowed, IsShare, MayBecome, MayBind, changes_of}
-use Rattle.sp_ledger.specs.Changes.{Change, Share, all_changed, binds, becomes, closes, holds, unbinds}
+use Rattle.sp_ledger.specs.Changes.{Change, Share, all_changed, binds, becomes, closes, holds, unbinds, unbinds_all}
+use Rattle.sp_ledger.specs.Endings.{one_by_one, returning}
 use Rattle.sp_ledger.specs.Events.{outcome, step}
 use Rattle.sp_ledger.specs.Ledger.{Ledger}
 use Rattle.sp_ledger.specs.Limits.{last_copy, most_ended, most_endpoints, most_subscriptions, spent}
 use Rattle.sp_ledger.specs.OnCopies.{delete_copies, deleted, deletions, is_named, tick}
 use Rattle.sp_ledger.specs.OnEndpoints.{change_step, deprovision, provision, shares_otherwise, subscribe, unsubscribe}
-use Rattle.sp_ledger.specs.OnFlows.{bind, can_take, deliveries, fits_kind, is_rebound, new_flow, outdated, pull}
-use Rattle.sp_ledger.specs.OnFlows.{given_back, pulled, rebinding, rebound, settle, settling}
+use Rattle.sp_ledger.specs.OnFlows.{all_given_back, bind, can_take, deliveries, fits_kind, is_rebound, new_flow, outdated, pull}
+use Rattle.sp_ledger.specs.OnFlows.{given_back, pulled, rebinding, rebound, restart, settle, settling}
 use Rattle.sp_ledger.specs.OnFlows.{topic_check, unbind}
 use Rattle.sp_ledger.specs.One.{is_bound_for}
 use Rattle.sp_ledger.specs.Publish.{publish, quota_check, share_for}
@@ -352,6 +354,12 @@ module _ (L : Ledger) (s : IsSound L) where
       (λ x. (x.copy == copy) && (x.flow == flow)) L.copies.held s.one.held.spooled
       (λ x is test. subst (λ k. is_spooled L.copies k ≡ true) (eqb-true _ _ (and_left (x.copy == copy) _ test)) is) h
 
+  held_copy_is_spooled : (copy : ℕ) → is_held L.copies.held copy ≡ true → is_spooled L.copies copy ≡ true
+  held_copy_is_spooled copy h =
+      All-any (λ (x : HeldCopy). IsTrue (is_spooled L.copies x.copy)) (is_spooled L.copies copy ≡ true)
+      (λ x. x.copy == copy) L.copies.held s.one.held.spooled
+      (λ x is test. subst (λ k. is_spooled L.copies k ≡ true) (eqb-true _ _ test) is) h
+
   -- and may be given back
   may_return : (flow : ℕ) (c : MadeCopy) → IsDrawn c → is_held_by L.copies.held flow c.number ≡ true → MayReturn L c
   may_return flow c drawn held = (
@@ -388,6 +396,28 @@ module _ (L : Ledger) (s : IsSound L) where
         ),
         tt,
       ))
+
+  -- what all flows hold may be given back
+  pub all_held_may : All (MayReturn L) (all_held L.copies)
+  all_held_may =
+      let held : MadeCopy → Type 0 = λ c. is_held L.copies.held c.number ≡ true in
+      All-weaker (λ (c : MadeCopy). IsDrawn c × held c) (MayReturn L)
+      (λ c h. (record { own = h.0.0; below = h.0.1; spooled = held_copy_is_spooled c.number h.1 }, h.1))
+      (all_held L.copies)
+      (All-both IsDrawn held (all_held L.copies) (all_held_among_made IsDrawn L.copies all_drawn)
+      (all_held_is_held L.copies))
+
+  restart_allowed : OnPassed (Allowed L) (restart L)
+  restart_allowed = one (length L.flows == 0)
+    where
+      back : List Change
+      back = one_by_one returning (all_held L.copies) L
+
+      one : (b : Bool) → AreAllowed (cond b [] (all_given_back L)) L
+      one true = tt
+      one false = allowed_append back (unbinds_all ∷ []) L
+          (returns_allowed (all_held L.copies) L s all_held_may (all_held_apart L.copies (kept_of L s).history))
+          (returns_let_go (all_held L.copies) L ∙ all_gone L.copies (kept_of L s).history, tt)
 
   pull_allowed : (caller : List ℕ) (flow count : ℕ) → All (λ a. a.count + 1 < L.next.unit) L.copies.attempts →
       OnPassed (Allowed L) (pull caller flow count L)
@@ -519,6 +549,7 @@ module _ (L : Ledger) (s : IsSound L) where
   step_allowed caller short few (events.Settle flow copy outcome) = settle_allowed caller flow copy outcome
   step_allowed caller short few events.Tick = tick_allowed
   step_allowed caller short few (events.DeleteCopies name copy) = delete_allowed name copy
+  step_allowed caller short few events.Restart = restart_allowed
 
 -- what an accepted event leaves is sound
 pub outcome_sound : (L : Ledger) → IsLedger L → (moment : ℕ) (caller : List ℕ) → is_caller caller ≡ true →
@@ -529,13 +560,20 @@ outcome_sound L s moment caller short event M told e =
     let few = All-weaker (λ (a : CopyAttempts). a.count < L.next.unit)
     (λ (a : CopyAttempts). a.count + 1 < L.next.unit + 1) (λ a lt. omega (arith, lt)) L.copies.attempts
     s.sound.copies.attempts in
-    where_accepted L B (λ m t. IsLedger m) (step caller event B)
-    (passed_weaker (Allowed B) (λ changes reply. L.next.unit < spent → IsLedger (all_changed changes B))
-    (λ changes reply may lt. record {
-      sound = changes_sound changes B sound may;
-      unit = let same = units_after changes B in omega (arith, same, lt);
-    }) (step caller event B) (step_allowed B sound caller short few event))
-    M told e
+    let left = number_left L B (step caller event B) (step_has_number L s moment caller event) M told e in
+    let after = where_accepted L B (λ m t. IsSound m × (m.next.unit ≡ L.next.unit + 1)) (step caller event B)
+    (passed_weaker (Allowed B)
+    (λ changes reply. IsSound (all_changed changes B) × ((all_changed changes B).next.unit ≡ L.next.unit + 1))
+    (λ changes reply may. (changes_sound changes B sound may, units_after changes B))
+    (step caller event B) (step_allowed B sound caller short few event))
+    M told e in
+    let number = left.number in
+    let same = after.1 in
+    record {
+      sound = after.0;
+      unit = omega (arith, number, same);
+      unbound = λ above. left.last (omega (arith, above, same));
+    }
 
 -- an accepted event's changes are allowed where it began, and leave the ledger after it
 pub accepted_changes : (L : Ledger) → IsLedger L → (moment : ℕ) (caller : List ℕ) → is_caller caller ≡ true →

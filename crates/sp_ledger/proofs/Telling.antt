@@ -40,14 +40,14 @@ use Rattle.sp_ledger.proofs.Steps.{deletions_allowed, given_back_allowed, held_m
 use Rattle.sp_ledger.proofs.Tallies.{fate_holds, fate_in_holds}
 use Rattle.sp_ledger.specs.Allowed.{AreAllowed, IsAllowed}
 use Rattle.sp_ledger.specs.Changes.{Change, all_changed, all_shared, becomes, binds, changed, closes, comes, ends}
-use Rattle.sp_ledger.specs.Changes.{frees, goes, goes_on, holds, logs, moves, publishes, repeats, starts, unbinds}
+use Rattle.sp_ledger.specs.Changes.{frees, goes, goes_on, holds, logs, moves, publishes, repeats, starts, unbinds, unbinds_all}
 use Rattle.sp_ledger.specs.Endings.{all_told, closed_by, dead_queue, end_by, ended_as, ending, fate_by, has_had_last}
 use Rattle.sp_ledger.specs.Endings.{moved_copy}
 use Rattle.sp_ledger.specs.Events.{outcome, step}
 use Rattle.sp_ledger.specs.Ledger.{Ledger, Published, message_of}
 use Rattle.sp_ledger.specs.Limits.{spent}
 use Rattle.sp_ledger.specs.OnCopies.{deletions, expiries}
-use Rattle.sp_ledger.specs.OnFlows.{bind, delivered, deliveries, given_back, outdated, pull, pulled, rebound, settle}
+use Rattle.sp_ledger.specs.OnFlows.{all_given_back, bind, delivered, deliveries, given_back, outdated, pull, pulled, rebound, settle}
 use Rattle.sp_ledger.specs.OnFlows.{settling, topic_check, unbind}
 use Rattle.sp_ledger.specs.Publish.{publish, share_for, told_copies}
 use Rattle.sp_ledger.specs.Sound.{IsSound}
@@ -182,6 +182,7 @@ change_so (holds copy flow) K may t e = absurd (cc)
 change_so (frees copy) K may t e = absurd (cc)
 change_so (binds f) K may t e = absurd (cc)
 change_so (unbinds flow) K may t e = absurd (cc)
+change_so unbinds_all K may t e = absurd (cc)
 change_so (starts r) K may t e = absurd (cc)
 change_so (goes_on r) K may t e = absurd (cc)
 change_so (ends replay) K may t e = absurd (cc)
@@ -400,6 +401,8 @@ module _ (L : Ledger) (s : IsSound L) where
   step_tells caller (events.DeleteCopies name copy) =
       passed_on_found {X = EndpointView} Tells (UnknownEndpoint name) _ (named name L.endpoints)
       (λ e found p. changes_tell (deletions L e copy) L (deletions_allowed L s e copy))
+  step_tells caller events.Restart =
+      none (all_changed (cond (length L.flows == 0) [] (all_given_back L)) L).copies
 
 -- one reply of which a fact holds
 pub single : (P : Reply → Type 0) (r : Reply) → P r → All P (r ∷ [])
@@ -415,8 +418,8 @@ module _ (L : Ledger) (s : IsSound L) (moment : ℕ) (caller : List ℕ) (event 
       let B = begun moment L in
       where_accepted L B (λ m t. All (TellsFates m.copies) t) (step caller event B)
       (passed_weaker (Tells B (begun_sound moment L s))
-      (λ changes reply. L.next.unit < spent → All (TellsFates (all_changed changes B).copies) (reply ∷ []))
-      (λ changes reply h lt. single (TellsFates (all_changed changes B).copies) reply h) (step caller event B)
+      (λ changes reply. All (TellsFates (all_changed changes B).copies) (reply ∷ []))
+      (λ changes reply h. single (TellsFates (all_changed changes B).copies) reply h) (step caller event B)
       tells)
       M told e
 

@@ -8,7 +8,7 @@ use Rattle.sp_ledger.proofs.Shared.{shared_next}
 use Rattle.sp_ledger.proofs.Steps.{accepted_changes}
 use Rattle.sp_ledger.specs.Allowed.{AreAllowed, IsAllowed, changes_of}
 use Rattle.sp_ledger.specs.Changes.{Change, all_changed, becomes, binds, changed, closes, comes, ends, frees, goes}
-use Rattle.sp_ledger.specs.Changes.{goes_on, holds, logs, moves, publishes, repeats, starts, unbinds}
+use Rattle.sp_ledger.specs.Changes.{goes_on, holds, logs, moves, publishes, repeats, starts, unbinds, unbinds_all}
 use Rattle.sp_ledger.specs.Events.{outcome, step}
 use Rattle.sp_ledger.specs.Ledger.{Ledger}
 use Rattle.sp_ledger.specs.Sound.{IsLedger}
@@ -31,6 +31,7 @@ now_after (holds copy flow) L = refl
 now_after (frees copy) L = refl
 now_after (binds f) L = refl
 now_after (unbinds flow) L = refl
+now_after unbinds_all L = refl
 now_after (starts r) L = refl
 now_after (goes_on r) L = refl
 now_after (ends replay) L = refl
@@ -95,6 +96,8 @@ one_later (binds f) L may =
     fields L (changed (binds f) L) (stays _) (stays _) (stays _) (omega (arith, number)) (stays _) (stays _)
 one_later (unbinds flow) L may =
     fields L (changed (unbinds flow) L) (stays _) (stays _) (stays _) (stays _) (stays _) (stays _)
+one_later unbinds_all L may =
+    fields L (changed unbinds_all L) (stays _) (stays _) (stays _) (stays _) (stays _) (stays _)
 one_later (starts r) L may =
     let number = may.number in
     fields L (changed (starts r) L) (stays _) (stays _) (stays _) (stays _) (omega (arith, number)) (stays _)

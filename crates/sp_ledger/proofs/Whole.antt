@@ -9,7 +9,7 @@ use Rattle.sp_event.specs.declared.request.Event.{Event}
 use Rattle.sp_ledger.proofs.Decided.{left_by}
 use Rattle.sp_ledger.specs.Changes.{Change, Share, all_changed, all_shared, becomes, binds, changed, closes, comes}
 use Rattle.sp_ledger.specs.Changes.{ends, frees, goes, goes_on, holds, logs, moves, publishes, repeats, starts}
-use Rattle.sp_ledger.specs.Changes.{unbinds, with_share}
+use Rattle.sp_ledger.specs.Changes.{unbinds, unbinds_all, with_share}
 use Rattle.sp_ledger.specs.Events.{outcome, step}
 use Rattle.sp_ledger.specs.Ledger.{Ledger}
 use Rattle.sp_ledger.specs.Sound.{IsWhole}
@@ -74,6 +74,7 @@ change_whole first (holds copy flow) L w = record { begun = w.begun; each = w.ea
 change_whole first (frees copy) L w = record { begun = w.begun; each = w.each }
 change_whole first (binds f) L w = w
 change_whole first (unbinds flow) L w = w
+change_whole first unbinds_all L w = w
 change_whole first (starts r) L w = w
 change_whole first (goes_on r) L w = w
 change_whole first (ends replay) L w = w

@@ -12,13 +12,13 @@ use Rattle.sp_copies.specs.declared.made.Origin.TheVariants.{Published, Moved}
 use Rattle.sp_endpoint.specs.Endpoint.{EndpointView}
 use Rattle.sp_endpoint.specs.Endpoints.{is_there}
 use Rattle.sp_ledger.specs.Changes.{Change, Share, becomes, binds, changed, closes, comes, ends, frees, goes, goes_on}
-use Rattle.sp_ledger.specs.Changes.{holds, logs, moves, publishes, repeats, starts, unbinds}
+use Rattle.sp_ledger.specs.Changes.{holds, logs, moves, publishes, repeats, starts, unbinds, unbinds_all}
 use Rattle.sp_ledger.specs.Ledger.{Ledger, Replay}
 use Rattle.sp_ledger.specs.Limits.{greatest_quota, last_copy, most_endpoints, spent}
 use Rattle.sp_ledger.specs.OnEndpoints.{shares_otherwise}
 use Rattle.sp_ledger.specs.One.{is_bound_for, is_by_move, is_of_message}
 use Rattle.sp_ledger.specs.Sound.{AreLogged, IsEndpoint, has_endpoint, has_message}
-use Rattle.sp_ledger.specs.Step.{Step, does, lacks}
+use Rattle.sp_ledger.specs.Step.{Step, always, does, lacks}
 use Rattle.sp_ledger.specs.Turns.{is_in, is_in_partition}
 use Rattle.sp_message.specs.Size.{size_of}
 use Rattle.sp_message.specs.declared.message.Message.{Message}
@@ -127,6 +127,7 @@ IsAllowed (holds copy flow) L = MayHold L copy flow
 IsAllowed (frees copy) L = is_held L.copies.held copy ≡ true
 IsAllowed (binds f) L = MayBind L f
 IsAllowed (unbinds flow) L = (is_bound L.flows flow ≡ true) × All (λ h. (h.flow == flow) ≡ false) L.copies.held
+IsAllowed unbinds_all L = L.copies.held ≡ []
 IsAllowed (starts r) L = MayStart L r
 IsAllowed (goes_on r) L = ⊤
 IsAllowed (ends replay) L = ⊤
@@ -140,3 +141,9 @@ AreAllowed (c ∷ cs) L = IsAllowed c L × AreAllowed cs (changed c L)
 abbrev pub changes_of : Step → List Change
 changes_of (lacks refusal) = []
 changes_of (does checks changes reply) = changes
+changes_of (always changes reply) = changes
+
+-- the unit that leads from one ledger to the other has its number, at most 2^62; no flow is bound after the last
+pub record HasNumber (L M : Ledger) : Type 0 where
+  pub number : L.next.unit ≤ spent
+  pub last : spent ≤ L.next.unit → M.flows ≡ []

@@ -34,9 +34,10 @@ pub data Change : Type 0 where
   -- a copy is held by a flow, or freed
   holds : ℕ → ℕ → Change
   frees : ℕ → Change
-  -- a flow is bound or goes; a replay starts, goes on or ends
+  -- a flow is bound, goes, or goes with all others; a replay starts, goes on or ends
   binds : FlowView → Change
   unbinds : ℕ → Change
+  unbinds_all : Change
   starts : Replay → Change
   goes_on : Replay → Change
   ends : ℕ → Change
@@ -81,6 +82,7 @@ changed (holds copy flow) L = record L { copies = with_held copy flow L.copies }
 changed (frees copy) L = record L { copies = with_given_back copy L.copies }
 changed (binds f) L = record L { flows = L.flows ++ f ∷ []; next = record L.next { flow = f.number + 1 } }
 changed (unbinds flow) L = record L { flows = without_flow flow L.flows }
+changed unbinds_all L = record L { flows = [] }
 changed (starts r) L = record L { replays = L.replays ++ r ∷ []; next = record L.next { replay = r.number + 1 } }
 changed (goes_on r) L = record L { replays = map (λ old. if old.number == r.number then r else old) L.replays }
 changed (ends replay) L = record L { replays = filter (λ r. not (r.number == replay)) L.replays }

@@ -1,11 +1,11 @@
 -- What each event comes to.
 use Rattle.sp_event.specs.declared.request.Event.{Event}
 use Rattle.sp_event.specs.declared.request.Event.TheVariants.{Provision, Deprovision, Change, Subscribe, Unsubscribe}
-use Rattle.sp_event.specs.declared.request.Event.TheVariants.{Publish, Bind, Unbind, Pull, Settle, Tick, DeleteCopies}
+use Rattle.sp_event.specs.declared.request.Event.TheVariants.{Publish, Bind, Unbind, Pull, Settle, Tick, DeleteCopies, Restart}
 use Rattle.sp_ledger.specs.Ledger.{Ledger}
 use Rattle.sp_ledger.specs.OnCopies.{delete_copies, tick}
 use Rattle.sp_ledger.specs.OnEndpoints.{change_step, deprovision, provision, subscribe, unsubscribe}
-use Rattle.sp_ledger.specs.OnFlows.{bind, pull, settle, unbind}
+use Rattle.sp_ledger.specs.OnFlows.{bind, pull, restart, settle, unbind}
 use Rattle.sp_ledger.specs.Publish.{publish}
 use Rattle.sp_ledger.specs.Step.{Outcome, Step, begun, outcome_of}
 use Rattle.std.specs.Prelude.{List, ℕ}
@@ -24,6 +24,7 @@ step caller (Pull flow count) L = pull caller flow count L
 step caller (Settle flow copy outcome) L = settle caller flow copy outcome L
 step caller Tick L = tick L
 step caller (DeleteCopies name copy) L = delete_copies name copy L
+step caller Restart L = restart L
 
 -- what it comes to at a moment
 abbrev pub outcome : ℕ → List ℕ → Event → Ledger → Outcome

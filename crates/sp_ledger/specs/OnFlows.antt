@@ -9,7 +9,7 @@ use Rattle.sp_config.specs.Attributes.{AttributesView}
 use Rattle.sp_config.specs.declared.kind.EndpointKind.{EndpointKind}
 use Rattle.sp_config.specs.declared.kind.EndpointKind.TheVariants.{Queue, TopicEndpoint}
 use Rattle.sp_copies.specs.Counts.{spooled_count}
-use Rattle.sp_copies.specs.History.{attempts_of, held_by, held_copies, held_copy, holder_in, open_copies}
+use Rattle.sp_copies.specs.History.{all_held, attempts_of, held_by, held_copies, held_copy, holder_in, open_copies}
 use Rattle.sp_copies.specs.History.{waiting_copies}
 use Rattle.sp_copies.specs.declared.closed.Cause.TheVariants.{TopicChanged}
 use Rattle.sp_copies.specs.declared.closed.Closing.TheVariants as closings
@@ -21,10 +21,10 @@ use Rattle.sp_event.specs.declared.answer.Delivery.{Delivery}
 use Rattle.sp_event.specs.declared.answer.Reply.TheVariants as replies
 use Rattle.sp_event.specs.declared.request.Outcome.{Outcome}
 use Rattle.sp_event.specs.declared.request.Outcome.TheVariants.{Accepted, Failed, Rejected}
-use Rattle.sp_ledger.specs.Changes.{Change, becomes, binds, closes, holds, unbinds}
+use Rattle.sp_ledger.specs.Changes.{Change, becomes, binds, closes, holds, unbinds, unbinds_all}
 use Rattle.sp_ledger.specs.Endings.{all_told, ending, fate_by, one_by_one, returning}
 use Rattle.sp_ledger.specs.Ledger.{Ledger, Published, message_of}
-use Rattle.sp_ledger.specs.Step.{Check, Step, does, is_spent, on_found, rule, unless}
+use Rattle.sp_ledger.specs.Step.{Check, Step, always, does, is_spent, on_found, rule, unless}
 use Rattle.sp_settle.specs.declared.questions.Reason.TheVariants as reasons
 use Rattle.sp_topic.specs.Subscription.{is_exception}
 use Rattle.std.specs.Prelude.{Bool, List, None, Option, Some, [], bytes_eq, false, filter, filter_map, if◌then◌else◌, is_none}
@@ -113,6 +113,14 @@ unbind caller flow L =
     does []
     (given_back L flow ++ unbinds flow ∷ [])
     (replies.Unbind flow closed (length (held_copies L.copies flow) - length closed)))
+
+-- what all flows hold is given back, in order of number, and they go
+abbrev pub all_given_back : Ledger → List Change
+all_given_back L = one_by_one returning (all_held L.copies) L ++ unbinds_all ∷ []
+
+-- every flow gives back what it holds, and goes; where none is bound, nothing changes. Nothing refuses it
+abbrev pub restart : Ledger → Step
+restart L = always (if length L.flows == 0 then [] else all_given_back L) replies.Restart
 
 -- whether a flow may take a copy of an endpoint with these attributes, by the copy's message and its partition's holder
 abbrev pub is_taken : List FlowView → ℕ → AttributesView → ℕ → Option ℕ → Option Published → Bool

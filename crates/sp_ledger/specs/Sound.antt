@@ -111,10 +111,16 @@ pub record IsSound (L : Ledger) : Type 0 where
   pub next : AreNext L.next
   pub turns : All (IsInTurn L.flows L.copies) L.endpoints
 
--- what every ledger has between two units
+-- what every ledger has at every moment, within a unit too
+pub record IsCounted (L : Ledger) : Type 0 where
+  pub sound : IsSound L
+  pub unit : L.next.unit ≤ spent + 1
+
+-- what every ledger has between two units: as long as a flow is bound, a number is left for the restart that unbinds it
 pub record IsLedger (L : Ledger) : Type 0 where
   pub sound : IsSound L
-  pub unit : L.next.unit ≤ spent
+  pub unit : L.next.unit ≤ spent + 1
+  pub unbound : spent < L.next.unit → L.flows ≡ []
 
 -- nothing was forgotten: the copies that were made are those of all numbers from a first one to the next less one
 pub record IsWhole (first : ℕ) (H : History) : Type 0 where

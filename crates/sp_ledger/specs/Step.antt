@@ -25,6 +25,8 @@ pub data Step : Type 0 where
   lacks : Refusal → Step
   -- checks by rising number of their rules, changes one after another, and the reply
   does : List Check → List Change → Reply → Step
+  -- changes that nothing refuses, not the unit's number either, and the reply
+  always : List Change → Reply → Step
 
 -- the step on what has to be there
 abbrev pub on_found : {X : Type 0} → Option X → Refusal → (X → Step) → Step
@@ -82,6 +84,7 @@ abbrev pub outcome_of : Ledger → Ledger → Step → Outcome
 outcome_of L B (lacks refusal) = refused refusal
 outcome_of L B (does checks changes reply) =
     decided (first_refusal (checks ++ unit_check L changes ∷ [])) (carried_out changes reply B)
+outcome_of L B (always changes reply) = carried_out changes reply B
 
 -- accepted without changing anything
 abbrev pub is_idle : Outcome → Bool

@@ -39,6 +39,7 @@ told_fates (replies.Pull flow given) = map (λ d. record { copy = d.copy; fate =
 told_fates (replies.Settle copy fate) = record { copy = copy; fate = fate } ∷ []
 told_fates (replies.Tick closed) = closed
 told_fates (replies.DeleteCopies endpoint closed) = closed
+told_fates replies.Restart = []
 told_fates (replies.Tally tally) = []
 told_fates (replies.Copy copy fate details) = record { copy = copy; fate = fate } ∷ []
 told_fates (replies.Flows endpoint flows) = []

@@ -1,5 +1,5 @@
 ghost use Rattle.std.specs.Prelude.{◌≡◌, ◌<◌, ◌≤◌, ◌+◌, ◌++◌, ◌∷◌, [], ℕ, true, max, IsTrue, List, map};
-ghost use Rattle.std.specs.Prelude.{Option, Some, All, AllPairs, Contains};
+ghost use Rattle.std.specs.Prelude.{Option, Some, All, AllPairs, Contains, length, false, ◌==◌};
 ghost use Rattle.sp_base.specs.Name.{is_caller};
 ghost use Rattle.sp_base.specs.Refusal.{number_of};
 ghost use Rattle.sp_base.specs.declared.refusal.Refusal.{Refusal};
@@ -10,7 +10,7 @@ ghost use Rattle.sp_endpoint.specs.Endpoints.{named};
 ghost use Rattle.sp_endpoint.specs.Takers.{is_before, takers, takes_message};
 ghost use Rattle.sp_event.specs.declared.answer.Reply.{Reply};
 ghost use Rattle.sp_event.specs.declared.request.Event.{Event};
-ghost use Rattle.sp_event.specs.declared.request.Event.TheVariants.{Bind};
+ghost use Rattle.sp_event.specs.declared.request.Event.TheVariants.{Bind, Restart};
 ghost use Rattle.sp_event.specs.declared.request.Query.{Query};
 ghost use Rattle.sp_ledger.specs.Allowed.{AreAllowed, IsAllowed, changes_of};
 ghost use Rattle.sp_ledger.specs.Answer.{answer, gave};
@@ -81,6 +81,16 @@ pub fn each_event_is_one_unit()
     ensures numbers { (L : Ledger) → IsLedger L → (moment : ℕ) (caller : List ℕ) → IsTrue (is_caller caller) →
         (event : Event) (M : Ledger) (told : List Reply) → outcome moment caller event L ≡ accepted M told →
         IsLater L M }
+{}
+
+/// A restart is never refused. Without flows it is idle; with flows it is accepted and leaves none,
+/// and a number up to 2^62 is left for its unit.
+pub fn a_restart_is_never_refused()
+    ensures idle { (L : Ledger) → L.flows ≡ [] → (moment : ℕ) (caller : List ℕ) →
+        outcome moment caller Restart L ≡ idle (Reply.Restart ∷ []) }
+    ensures accepted { (L : Ledger) → (length L.flows == 0) ≡ false → (moment : ℕ) (caller : List ℕ) →
+        (M : Ledger) × (outcome moment caller Restart L ≡ accepted M (Reply.Restart ∷ [])) × (M.flows ≡ []) }
+    ensures number { (L : Ledger) → IsLedger L → (length L.flows == 0) ≡ false → L.next.unit ≤ spent }
 {}
 
 /// From a ledger's beginning on, as long as nothing is forgotten, the copies that were made are those

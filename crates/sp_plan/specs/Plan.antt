@@ -4,7 +4,7 @@ use Rattle.sp_event.specs.declared.answer.Reply.{Reply}
 use Rattle.sp_ledger.specs.Changes as ledger
 use Rattle.sp_plan.specs.declared.change.Change.{Change}
 use Rattle.sp_plan.specs.declared.change.Change.TheVariants.{Comes, Goes, Becomes, Publishes, Closes}
-use Rattle.sp_plan.specs.declared.change.Change.TheVariants.{Moves, Holds, Frees, Binds, Unbinds}
+use Rattle.sp_plan.specs.declared.change.Change.TheVariants.{Moves, Holds, Frees, Binds, Unbinds, UnbindsAll}
 use Rattle.sp_plan.specs.declared.need.Need.{Need}
 
 -- the ledger's change that it is
@@ -19,6 +19,7 @@ change_of (Holds copy flow) = ledger.holds copy flow
 change_of (Frees copy) = ledger.frees copy
 change_of (Binds flow) = ledger.binds flow
 change_of (Unbinds flow) = ledger.unbinds flow
+change_of UnbindsAll = ledger.unbinds_all
 
 -- the ledger's changes that they are
 abbrev pub changes_of : List Change → List ledger.Change

@@ -41,4 +41,6 @@ pub enum Change {
     Binds(Flow),
     /// A flow goes.
     Unbinds(FlowNo),
+    /// All flows go.
+    UnbindsAll,
 }

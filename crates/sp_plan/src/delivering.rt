@@ -3,7 +3,7 @@ ghost use Rattle.sp_copies.specs.History.{History, attempts_of};
 ghost use Rattle.sp_copies.specs.Kept.{Records};
 ghost use Rattle.sp_ledger.specs.Ledger.{Ledger, message_of};
 ghost use Rattle.sp_ledger.specs.OnFlows.{delivered, deliveries};
-ghost use Rattle.std.specs.Prelude.{◌≡◌, ◌<◌, ◌^◌, All, IfOk, option_map};
+ghost use Rattle.std.specs.Prelude.{◌≡◌, ◌≤◌, ◌^◌, All, IfOk, option_map};
 
 use crate::published::{Published, delivered, find_message};
 use sp_base::items::{Items, push_some};
@@ -14,14 +14,14 @@ use sp_event::answer::Delivery;
 use std::alloc::{AllocError, Global};
 
 /// What is delivered of some copies, in their order: each with its message, handed out once more.
-/// No copy was handed out 2^62 times before.
+/// No copy was handed out more than 2^62 times before.
 pub fn deliveries(
     alloc: Global,
     store: &Copies,
     messages: &[Published],
     copies: &[MadeCopy],
 ) -> Result<Items<Delivery>, AllocError>
-    requires few { (H : History) × Records store.now H × All (λ a. a.count < 2 ^ 62) H.attempts }
+    requires few { (H : History) × Records store.now H × All (λ a. a.count ≤ 2 ^ 62) H.attempts }
     ensures { IfOk result (λ ds. (L : Ledger) → Records store.now L.copies → messages.now ≡ L.messages → ds ≡ deliveries L copies.now) }
 {
     let mut told = Vec::new(alloc);
@@ -37,7 +37,7 @@ fn delivery_of(
     messages: &[Published],
     copy: &MadeCopy,
 ) -> Result<Option<Delivery>, AllocError>
-    requires few { (H : History) × Records store.now H × All (λ a. a.count < 2 ^ 62) H.attempts }
+    requires few { (H : History) × Records store.now H × All (λ a. a.count ≤ 2 ^ 62) H.attempts }
     ensures { IfOk result (λ d. (L : Ledger) → Records store.now L.copies → messages.now ≡ L.messages → d ≡ option_map (delivered L copy.now) (message_of L.messages copy.now.message)) }
 {
     match find_message(messages, copy.message) {
@@ -51,9 +51,9 @@ fn delivery_of(
 
 // How often a copy was handed out.
 fn attempts(store: &Copies, copy: CopyNo) -> u64
-    requires few { (H : History) × Records store.now H × All (λ a. a.count < 2 ^ 62) H.attempts }
+    requires few { (H : History) × Records store.now H × All (λ a. a.count ≤ 2 ^ 62) H.attempts }
     ensures value { (H : History) → Records store.now H → result ≡ attempts_of H.attempts copy }
-    ensures bound { result < 2 ^ 62 }
+    ensures bound { result ≤ 2 ^ 62 }
 {
     store.attempts(copy)
 }

@@ -44,7 +44,7 @@ pub record SoFar (left_old left_new written_old written_new : Option (List ℕ))
 pub begins : (left written : Option (List ℕ)) (core : CoreState) → Stands core first_ledger →
     SoFar left left written written [] core 0 0
 begins left written core s = record {
-  begun = s.ledger;
+  begun = record { sound = s.ledger.sound; unit = s.ledger.unit; unbound = λ above. refl };
   turns = [];
   run = tt;
   read = reads_nothing left;

@@ -262,6 +262,11 @@ delete_copies_told bytes x is e =
     subst (Told 12 bytes) (some_is (event.DeleteCopies a.0.0 b.0.0, b.0.1) x b.2)
     (Takes-byte 12 bytes _ b.0.1 whole, (ta.1, tb.1))
 
+restart_told : (bytes : List ℕ) (x : Event × List ℕ) → IsBytes bytes → Some (event.Restart, bytes) ≡ Some x
+    → Told 17 bytes x
+restart_told bytes x is e =
+    subst (Told 17 bytes) (some_is (event.Restart, bytes) x e) (record { parts = refl; rest_fits = is }, tt)
+
 fields_told : (tag : ℕ) (bytes : List ℕ) (x : Event × List ℕ) → IsBytes bytes → fields_at tag bytes ≡ Some x
     → Told tag bytes x
 unfolding fields_at
@@ -279,7 +284,14 @@ fields_told (suc (suc (suc (suc (suc (suc (suc (suc (suc (suc zero)))))))))) byt
 fields_told (suc (suc (suc (suc (suc (suc (suc (suc (suc (suc (suc zero))))))))))) bytes x is e = tick_told bytes x is e
 fields_told (suc (suc (suc (suc (suc (suc (suc (suc (suc (suc (suc (suc zero)))))))))))) bytes x is e =
     delete_copies_told bytes x is e
-fields_told (suc (suc (suc (suc (suc (suc (suc (suc (suc (suc (suc (suc (suc n))))))))))))) bytes x is e = absurd cc
+fields_told (suc (suc (suc (suc (suc (suc (suc (suc (suc (suc (suc (suc (suc zero))))))))))))) bytes x is e = absurd cc
+fields_told (suc (suc (suc (suc (suc (suc (suc (suc (suc (suc (suc (suc (suc (suc zero)))))))))))))) bytes x is e = absurd cc
+fields_told (suc (suc (suc (suc (suc (suc (suc (suc (suc (suc (suc (suc (suc (suc (suc zero))))))))))))))) bytes x is e = absurd cc
+fields_told (suc (suc (suc (suc (suc (suc (suc (suc (suc (suc (suc (suc (suc (suc (suc (suc zero)))))))))))))))) bytes x is e = absurd cc
+fields_told (suc (suc (suc (suc (suc (suc (suc (suc (suc (suc (suc (suc (suc (suc (suc (suc (suc zero))))))))))))))))) bytes x is e =
+    restart_told bytes x is e
+fields_told (suc (suc (suc (suc (suc (suc (suc (suc (suc (suc (suc (suc (suc (suc (suc (suc (suc (suc n)))))))))))))))))) bytes x is e =
+    absurd cc
 
 -- ---- what is written is read again
 
@@ -334,6 +346,7 @@ event_again event.Tick rest h = refl
 event_again (event.DeleteCopies endpoint copy) rest h =
     ap delete_copies_at (append_assoc (text_bytes endpoint) (option_bytes number_bytes copy) rest)
     ∙ rw (name_codec.again endpoint (option_bytes number_bytes copy ++ rest) h.0, copy_option.again copy rest h.1) refl
+event_again event.Restart rest h = refl
 
 pub event_codec : IsCodec IsEvent event_bytes event_at
 unfolding event_at

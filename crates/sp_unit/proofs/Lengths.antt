@@ -235,6 +235,7 @@ event_len (event.DeleteCopies endpoint copy) h =
       name_len endpoint h.0,
       copy_option_len copy,
     )
+event_len event.Restart h = omega arith
 
 one_len : (es : List Event) → length es ≡ 1 → AllByRecursion IsEvent es → length (list_bytes event_bytes es) ≤ 9000002
 one_len [] one h = absurd (omega arith)

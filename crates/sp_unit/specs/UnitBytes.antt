@@ -61,6 +61,7 @@ event_bytes (event.Settle flow copy outcome) =
     10 ∷ (number_bytes flow ++ (number_bytes copy ++ (outcome_byte outcome ∷ [])))
 event_bytes event.Tick = 11 ∷ []
 event_bytes (event.DeleteCopies endpoint copy) = 12 ∷ (text_bytes endpoint ++ option_bytes number_bytes copy)
+event_bytes event.Restart = 17 ∷ []
 
 -- where a value is a name, it keeps the rule for names
 abbrev pub is_named : AttrValue → Bool
@@ -98,6 +99,7 @@ IsEvent (event.Settle flow copy outcome) = (flow ≤ greatest_number) × (copy �
 IsEvent event.Tick = Unit {0}
 IsEvent (event.DeleteCopies endpoint copy) = (is_name endpoint ≡ true)
     × IfSome copy (λ number. number ≤ greatest_number)
+IsEvent event.Restart = Unit {0}
 
 -- what a unit has: the moment and the caller of a request, and its events
 pub record UnitView : Type 0 where

@@ -170,7 +170,12 @@ fields_at (suc (suc (suc (suc (suc (suc (suc (suc (suc zero))))))))) bytes = pul
 fields_at (suc (suc (suc (suc (suc (suc (suc (suc (suc (suc zero)))))))))) bytes = settle_at bytes
 fields_at (suc (suc (suc (suc (suc (suc (suc (suc (suc (suc (suc zero))))))))))) bytes = Some (event.Tick, bytes)
 fields_at (suc (suc (suc (suc (suc (suc (suc (suc (suc (suc (suc (suc zero)))))))))))) bytes = delete_copies_at bytes
-fields_at (suc (suc (suc (suc (suc (suc (suc (suc (suc (suc (suc (suc (suc n))))))))))))) bytes = None
+fields_at (suc (suc (suc (suc (suc (suc (suc (suc (suc (suc (suc (suc (suc zero))))))))))))) bytes = None
+fields_at (suc (suc (suc (suc (suc (suc (suc (suc (suc (suc (suc (suc (suc (suc zero)))))))))))))) bytes = None
+fields_at (suc (suc (suc (suc (suc (suc (suc (suc (suc (suc (suc (suc (suc (suc (suc zero))))))))))))))) bytes = None
+fields_at (suc (suc (suc (suc (suc (suc (suc (suc (suc (suc (suc (suc (suc (suc (suc (suc zero)))))))))))))))) bytes = None
+fields_at (suc (suc (suc (suc (suc (suc (suc (suc (suc (suc (suc (suc (suc (suc (suc (suc (suc zero))))))))))))))))) bytes = Some (event.Restart, bytes)
+fields_at (suc (suc (suc (suc (suc (suc (suc (suc (suc (suc (suc (suc (suc (suc (suc (suc (suc (suc n)))))))))))))))))) bytes = None
 
 unfoldable pub event_at : List ℕ → Option (Event × List ℕ)
 event_at bytes = do

@@ -119,6 +119,10 @@ fn write_event(event: &Event, into: &mut Vec<u8>) -> Result<(), AllocError>
             write_tagged_name(12, endpoint, into)?;
             write_option::<CopyCodec>(copy, into)
         }
+        Event::Restart => {
+            into.push(17)?;
+            Ok(())
+        }
     }
 }
 
@@ -200,6 +204,7 @@ fn read_fields(alloc: Global, tag: u8, bytes: &[u8]) -> Result<(Event, &[u8]), R
         10 => read_settle(bytes),
         11 => Ok((Event::Tick, bytes)),
         12 => read_delete_copies(alloc, bytes),
+        17 => Ok((Event::Restart, bytes)),
         _ => Err(ReadError::NotOne),
     }
 }

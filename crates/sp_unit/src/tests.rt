@@ -9,8 +9,9 @@ use sp_message::codec::ReadError;
 use std::alloc::Global;
 use std::test::Fail;
 
-// Each begins with the moment 0, the caller `ann` and the number 1 of the events.
-const UNITS: [&[u8]; 19] = [
+// Where nothing else is said, each begins with the moment 0, the caller `ann` and the number 1 of
+// the events.
+const UNITS: [&[u8]; 21] = [
     // The provision of the queue q1.
     b"\0\0\0\0\0\0\0\0\x03ann\x01\x01\x02\0\0\0q1\0\0",
     // The provision of a topic endpoint with a word, a name, a truth value, a number, the empty
@@ -39,6 +40,10 @@ const UNITS: [&[u8]; 19] = [
     // The copies of q1 are deleted, and of them the copy 2^62.
     b"\0\0\0\0\0\0\0\0\x03ann\x01\x0c\x02\0\0\0q1\0",
     b"\0\0\0\0\0\0\0\0\x03ann\x01\x0c\x02\0\0\0q1\x01\0\0\0\0\0\0\0\x40",
+    // The restart of an opening: the moment 0 and the caller `#system`. That of another caller at
+    // the moment 7 is one too.
+    b"\0\0\0\0\0\0\0\0\x07#system\x01\x11",
+    b"\x07\0\0\0\0\0\0\0\x03ann\x01\x11",
     // The last moment.
     b"\xff\xff\xff\xff\xff\xff\x1f\0\x03ann\x01\x02\x02\0\0\0q1",
 ];

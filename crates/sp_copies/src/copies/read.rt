@@ -1,6 +1,6 @@
 // What a store tells of its copies and of who holds them.
 ghost use Rattle.std.specs.Prelude.{◌≡◌, ◌≤◌, ◌^◌, length, take, IfOk};
-ghost use Rattle.sp_copies.specs.History.{History, copy_of, fate_of, attempts_of, used_bytes, holder_in, holder_of, held_by, held_copies, held_copy, free_copies, is_held, is_held_by, is_spooled, is_free, next_spooled, open_copies, waiting_copies};
+ghost use Rattle.sp_copies.specs.History.{History, all_held, copy_of, fate_of, attempts_of, used_bytes, holder_in, holder_of, held_by, held_copies, held_copy, free_copies, is_held, is_held_by, is_spooled, is_free, next_spooled, open_copies, waiting_copies};
 ghost use Rattle.sp_copies.specs.Due.{due_copies, first_due};
 ghost use Rattle.sp_copies.specs.Kept.{Records};
 
@@ -130,6 +130,14 @@ impl Copies {
         ensures { IfOk result (λ copies. (H : History) → Records self.now H → copies ≡ held_copies H flow) }
     {
         let copies = holders::held_copies(alloc, self.made.as_slice(), self.held.as_slice(), flow)?;
+        Ok(Items::from_vec(copies))
+    }
+
+    /// The copies that any flow holds, in order of number.
+    pub fn all_held(&self, alloc: Global) -> Result<Items<MadeCopy>, AllocError>
+        ensures { IfOk result (λ copies. (H : History) → Records self.now H → copies ≡ all_held H) }
+    {
+        let copies = holders::all_held(alloc, self.made.as_slice(), self.held.as_slice())?;
         Ok(Items::from_vec(copies))
     }
 

@@ -1,5 +1,5 @@
 // Units are carried out.
-ghost use Rattle.std.specs.Prelude.{◌<◌, List, ℕ};
+ghost use Rattle.std.specs.Prelude.{◌≤◌, List, ℕ};
 ghost use Rattle.sp_core.specs.Decided.{CarriesOut, IsPrepared, MayCarryOut, ledger_after};
 ghost use Rattle.sp_core.specs.Room.{Has, HasRoom, Takes};
 ghost use Rattle.sp_plan.specs.Plan.{change_of, changes_of, need_of, no_need};
@@ -47,12 +47,12 @@ impl Core {
 
     // One more unit, at the later of both moments.
     fn begin(&mut self, moment: Moment)
-        requires { (L : Ledger) → Stands self.old L → L.next.unit < spent }
+        requires { (L : Ledger) → Stands self.old L → L.next.unit ≤ spent }
         ensures stood { IsCore self.old }
         ensures begun { (L : Ledger) → Stands self.old L → Stands self.new (begun moment L) }
         ensures room { Takes no_need self.old self.new }
     {
-        self.next_unit = UnitNo::of(self.next_unit.value() + 1);
+        self.last_unit = UnitNo::of(self.last_unit.value() + 1);
         self.clock = self.clock.max(moment);
     }
 
@@ -84,6 +84,7 @@ impl Core {
             Change::Frees(copy) => self.free(copy),
             Change::Binds(flow) => self.bind(flow),
             Change::Unbinds(flow) => self.unbind(flow),
+            Change::UnbindsAll => self.unbind_all(),
         }
     }
 }

@@ -66,6 +66,7 @@ impl Core {
             } => self.decide_settle(alloc, moment, caller, *flow, *copy, *outcome),
             Event::Tick => self.decide_tick(alloc, moment),
             Event::DeleteCopies { endpoint, copy } => self.decide_delete(alloc, endpoint, *copy),
+            Event::Restart => self.decide_restart(alloc, moment),
         }
     }
 

@@ -9,7 +9,7 @@ ghost use Rattle.sp_core.specs.Stands.{Stands};
 ghost use Rattle.sp_endpoint.specs.Endpoints.{numbered};
 ghost use Rattle.sp_ledger.specs.Changes.{holds};
 ghost use Rattle.sp_ledger.specs.Ledger.{Ledger};
-ghost use Rattle.sp_ledger.specs.OnFlows.{bind, fits_kind, is_rebound, outdated, rebound, unbind, deliveries, pull, pulled, settle};
+ghost use Rattle.sp_ledger.specs.OnFlows.{bind, fits_kind, is_rebound, outdated, rebound, restart, unbind, deliveries, pull, pulled, settle};
 ghost use Rattle.sp_ledger.specs.Step.{first_refusal, is_spent, rule, begun};
 ghost use Rattle.std.specs.Option.{option_copied};
 ghost use Rattle.std.specs.Prelude.{◌≡◌, ◌&&◌, ◌==◌, ◌∷◌, [], IfOk, None, Some, map, nat_le, not, true, length};
@@ -22,7 +22,7 @@ use sp_base::name::Name;
 use sp_base::number::{CopyNo, EndpointNo, FlowNo};
 use sp_base::refusal::{Kind, Refusal};
 use sp_copies::made::MadeCopy;
-use sp_ending::plans::{settle_plan, unbind_plan};
+use sp_ending::plans::{restart_plan, settle_plan, unbind_plan};
 use sp_endpoint::endpoint::Endpoint;
 use sp_event::answer::Reply;
 use sp_event::request::{Outcome, PullCount};
@@ -152,6 +152,26 @@ impl Core {
         let (endpoints, copies, messages) = self.tables();
         let plan = unbind_plan(alloc, endpoints, copies, messages, flow, held.as_slice())?;
         self.judge(plan)
+    }
+
+    // Nothing refuses a restart, so there is nothing to judge.
+    pub(crate) fn decide_restart(
+        &self,
+        alloc: Global,
+        moment: Moment,
+    ) -> Result<Plan, Declined<Refusal>>
+        ensures { (L : Ledger) → Stands self.now L → Obeys (verdict L (restart (begun moment L))) result }
+    {
+        if self.flows.len() == 0 {
+            return Ok(Plan {
+                changes: Vec::new(alloc),
+                reply: Reply::Restart,
+            });
+        }
+        let held = self.copies.all_held(alloc)?;
+        let (endpoints, copies, messages) = self.tables();
+        let plan = restart_plan(alloc, endpoints, copies, messages, held.as_slice())?;
+        Ok(plan)
     }
 
     pub(crate) fn decide_pull(

@@ -3,7 +3,7 @@ ghost use Rattle.sp_core.specs.Room.{Has, Takes};
 ghost use Rattle.sp_plan.specs.Plan.{need_of};
 ghost use Rattle.sp_core.specs.Stands.{Stands};
 ghost use Rattle.sp_ledger.specs.Allowed.{IsAllowed};
-ghost use Rattle.sp_ledger.specs.Changes.{becomes, binds, changed, closes, comes, frees, goes, holds, moves, publishes, unbinds};
+ghost use Rattle.sp_ledger.specs.Changes.{becomes, binds, changed, closes, comes, frees, goes, holds, moves, publishes, unbinds, unbinds_all};
 ghost use Rattle.sp_ledger.specs.Ledger.{Ledger};
 
 use crate::state::Core;
@@ -117,5 +117,13 @@ impl Core {
         ensures room { Takes (need_of (unbinds flow)) self.old self.new }
     {
         self.flows.unbind(flow);
+    }
+
+    pub(crate) fn unbind_all(&mut self)
+        requires may { (L : Ledger) × Stands self.old L × IsAllowed unbinds_all L }
+        ensures changed { (L : Ledger) → Stands self.old L → IsAllowed unbinds_all L → Stands self.new (changed unbinds_all L) }
+        ensures room { Takes (need_of unbinds_all) self.old self.new }
+    {
+        self.flows.unbind_all();
     }
 }

@@ -28,6 +28,7 @@ request 4|{"op":"settle","flow":1,"copy":1,"outcome":""}
 request 4|{"op":"settle","flow":1,"copy":1,"outcome":["failed"]}
 tick|{"op":"tick"}
 request 3|{"op":"tick","endpoint":"q1"}
+request 1|{"op":"restart"}
 delete q1|{"op":"delete","endpoint":"q1"}
 delete q1 0|{"op":"delete","endpoint":"q1","copy":0}
 delete q1 4611686018427387904|{"op":"delete","endpoint":"q1","copy":4611686018427387904}
@@ -150,5 +151,13 @@ fn a_delete_and_an_unbind_tell_what_they_closed(rt: HostRuntime) -> Result<(), F
     let text =
         r#"{"closed":[{"copy":1,"fate":"moved","to":3},{"cause":"RedeliveryExceeded","copy":2,"fate":"discarded"}],"flow":1,"ok":"unbind","returned":1,"unit":9}"#;
     assert!(rt; shows(alloc, Answered::Gave(gone), 9, text)?);
+    Ok(())
+}
+
+#[test]
+fn a_restart_tells_nothing_but_its_unit(rt: HostRuntime) -> Result<(), Fail> {
+    let alloc = rt.alloc();
+    let text = r#"{"ok":"restart","unit":8}"#;
+    assert!(rt; shows(alloc, Answered::Gave(Reply::Restart), 8, text)?);
     Ok(())
 }

@@ -72,6 +72,7 @@ fn asked(alloc: Global, ask: &Ask) -> Result<String, AllocError> {
                 copy: Some(copy),
             },
         ) => format!(in alloc; "delete {} {}", endpoint.as_str(), copy.value()),
+        Ask::Do(Event::Restart) => String::from_str(alloc, "restart"),
         Ask::Look(Query::Copy { copy }) => format!(in alloc; "{}", copy.value()),
         Ask::Look(Query::Flows { endpoint }) => format!(in alloc; "flows {}", endpoint.as_str()),
         Ask::Look(Query::Tally { endpoint: None }) => String::from_str(alloc, "all"),

@@ -21,8 +21,8 @@ returns-clause-stood c = subst Rattle.sp_core.specs.Stands.IsCore c.self.view_is
 
 pub returns-clause-begun : goal.returns-clause-begun
 returns-clause-begun c L s =
-    begins (core_state c.self.inside) L (standing _ _ L c.self.view_is s) c.of-self-inside.result c.max-self-inside.result c.args.moment (c.requires L s)
-    (c.of-self-inside.ensures ∙ ap (λ (n : ℕ). n + 1) c.value.ensures.value) c.max-self-inside.ensures
+    begins (core_state c.self.inside) L (standing _ _ L c.self.view_is s) (c.of-self-inside.result + 1) c.max-self-inside.result c.args.moment (c.requires L s)
+    (ap (λ (n : ℕ). n + 1) (c.of-self-inside.ensures ∙ ap (λ (n : ℕ). n + 1) c.value.ensures.value)) c.max-self-inside.ensures
 
 pub invariant_of-self : goal.invariant_of-self
 invariant_of-self c =

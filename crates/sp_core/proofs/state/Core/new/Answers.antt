@@ -27,8 +27,8 @@ invariant_of-result-2 c =
         next_message = c.of-3.ensures;
         next_flow = c.new-4.ensures.next ∙ c.of.ensures;
         next_replay = c.of-4.ensures;
-        next_unit = c.of-5.ensures;
+        next_unit = let last = c.of-5.ensures in let least = c.requires.least.5 in omega (arith, last, least);
         clock = refl;
-        ledger = empty_sound _ _ next most.5 (omega (arith, c.requires.least.2)) most.2;
+        ledger = let first = empty_sound _ _ next most.5 (omega (arith, c.requires.least.2)) most.2 in record { sound = first.sound; unit = first.unit };
       };
     }

@@ -21,7 +21,7 @@ returns-in_ok-make_ready-in-Ok c event is =
     subst (λ (r : ReadyState). Prepares c.args.self.now c.make_ready.new.self c.args.now c.args.from.now event (Ok r))
     (sym c.in_ok-make_ready-in-Ok.ensures.ready)
     (prepares_ready c.args.self.now c.make_ready.new.self c.make_ready.ensures.same c.args.now c.args.from.now event c.in-Ok.plan c.requires.caller planned
-    c.in_ok-make_ready-in-Ok.ensures.room)
+    c.in_ok-make_ready-in-Ok.ensures.number c.in_ok-make_ready-in-Ok.ensures.room)
 
 pub returns-in-Err : goal.returns-in-Err
 returns-in-Err c event is =

@@ -3,4 +3,5 @@ use Rattle.std.proofs.lemmas.List.Sorted.{answers_always}
 use Rattle.sp_endpoint.proofs.endpoints.Endpoints.place.Goals as goal
 
 pub returns : goal.returns
-returns c = rw (← c.self.view_is, ← c.value.ensures.value) (c.place_of.ensures (λ e. e.number) (answers_always _ _ _ (λ f a r g h. search rules)))
+returns c = rw (← c.self.view_is, ← c.value.ensures.value)
+    (c.place_of.ensures (λ e. e.number) (answers_always _ _ _ (λ f a r g h. search rules)))
