@@ -5,6 +5,7 @@ pub mod Heads
 pub mod OneFate
 pub mod OneReading
 pub mod Opens
+pub mod Prefixes
 pub mod States
 pub mod UnitSteps
 pub mod Walks

@@ -7,7 +7,7 @@ use Rattle.sp_unit.proofs.Lengths.{unit_len}
 use Rattle.sp_unit.proofs.Units.{one_unit}
 use Rattle.sp_unit.specs.UnitBytes.{KeepsUnitRules, UnitView, unit_bytes}
 use Rattle.sp_journal.specs.Damage.{BeginsWithUnit}
-use Rattle.sp_journal.specs.Format.{heading, framed, AreUnits, IsFront, EndsAt, IsUnborn, HasUnits}
+use Rattle.sp_journal.specs.Format.{heading, framed, AreUnits, IsFront, ComesTo, EndsAt, IsUnborn, HasUnits}
 use Rattle.sp_journal.specs.Unsure.{KeepsUnits}
 
 -- bytes behind their length are read in one way
@@ -50,11 +50,11 @@ module _ (a b : UnitView) (x y : List ℕ) (keeps : KeepsUnitRules a) (also : Ke
   short_b : length (unit_bytes b) ≤ 16777216
   short_b = unit_len (unit_bytes b) b (also, refl)
 
-  same_unit : a ≡ b
+  pub same_unit : a ≡ b
   same_unit =
       one_unit (unit_bytes a) a b (keeps, refl) (also, same_body (unit_bytes a) (unit_bytes b) x y short_a short_b same)
 
-  same_behind_unit : x ≡ y
+  pub same_behind_unit : x ≡ y
   same_behind_unit = same_rest (unit_bytes a) (unit_bytes b) x y short_a short_b same
 
 -- no unit goes on from here: the gate is closed, or it is open and none follows
@@ -83,7 +83,7 @@ goes_on unit rest more bytes gate shown keeps others same ends =
     ]
 
 -- the first bytes of two readings
-joined_at : (a b p q s t u v : List ℕ) (gate other : ℕ) → u ≡ gate ∷ (a ++ p) → v ≡ other ∷ (b ++ q) → u ++ s ≡ v ++ t
+pub joined_at : (a b p q s t u v : List ℕ) (gate other : ℕ) → u ≡ gate ∷ (a ++ p) → v ≡ other ∷ (b ++ q) → u ++ s ≡ v ++ t
     → a ++ (p ++ s) ≡ b ++ (q ++ t)
 joined_at a b p q s t u v gate other is also same =
     let begins : gate ∷ ((a ++ p) ++ s) ≡ other ∷ ((b ++ q) ++ t) =
@@ -167,27 +167,40 @@ module _ (xs ys : List UnitView) (p q : ℕ) (file : List ℕ) (a : EndsAt xs p 
       (ends_units xs p file a) (ends_units ys q file b) in
       sym a.is_place ∙ same ∙ b.is_place
 
--- a file that is not born doesn't end anywhere
-pub unborn_ends : (units : List UnitView) (place : ℕ) (file : List ℕ) → IsUnborn file → EndsAt units place file → ⊥
-unborn_ends units place file unborn ends =
-    elim unborn [ inl short ↦ omega (arith, short, long) | inr at_end ↦ ends.is_front.born (shut at_end.1) ]
+-- a file that is not born has no gate
+pub unborn_comes : (units : List UnitView) (place : ℕ) (file : List ℕ) → IsUnborn file → ComesTo units place file → ⊥
+unborn_comes units place file unborn comes =
+    elim unborn [ inl short ↦ omega (arith, short, long) | inr at_end ↦ comes.is_front.born (shut at_end.1) ]
   where
-    left : file ≡ ends.is_front.birth ∷ (heading ++ ends.is_front.tail) ++ 0 ∷ ends.behind
-    left = ends.bytes ∙ ap (λ (l : List ℕ). l ++ 0 ∷ ends.behind) ends.is_front.bytes
+    left : file ≡ comes.is_front.birth ∷ (heading ++ comes.is_front.tail) ++ comes.gate ∷ comes.behind
+    left = comes.bytes ∙ ap (λ (l : List ℕ). l ++ comes.gate ∷ comes.behind) comes.is_front.bytes
 
     long : 14 ≤ length file
     long = omega (
       arith,
-      ap length ends.bytes,
-      length-append ends.front (0 ∷ ends.behind),
-      ap length ends.is_front.bytes,
-      length-append heading ends.is_front.tail,
+      ap length comes.bytes,
+      length-append comes.front (comes.gate ∷ comes.behind),
+      ap length comes.is_front.bytes,
+      length-append heading comes.is_front.tail,
     )
 
-    shut : take 1 file ≡ 0 ∷ [] → ends.is_front.birth ≡ 0
+    shut : take 1 file ≡ 0 ∷ [] → comes.is_front.birth ≡ 0
     shut closed =
-        let begins : ends.is_front.birth ∷ [] ≡ 0 ∷ [] = sym (ap (λ (l : List ℕ). take 1 l) left) ∙ closed in
+        let begins : comes.is_front.birth ∷ [] ≡ 0 ∷ [] = sym (ap (λ (l : List ℕ). take 1 l) left) ∙ closed in
         cc
+
+-- nor does it end anywhere
+pub unborn_ends : (units : List UnitView) (place : ℕ) (file : List ℕ) → IsUnborn file → EndsAt units place file → ⊥
+unborn_ends units place file unborn ends =
+    unborn_comes units place file unborn
+    (record {
+      front = ends.front;
+      gate = 0;
+      behind = ends.behind;
+      is_front = ends.is_front;
+      is_place = ends.is_place;
+      bytes = ends.bytes;
+    })
 
 -- bytes have one list of units
 pub one_history : (xs ys : List UnitView) (file : List ℕ) → HasUnits xs file → HasUnits ys file → xs ≡ ys

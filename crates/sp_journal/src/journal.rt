@@ -192,6 +192,7 @@ impl Journal {
             ComesTo units at (D.content disk.old File.Journal) →
             IfOk result (GivesUnit units at into.new.items (D.content disk.old File.Journal)) }
         ensures unborn { IsNotBorn self.now → result ≡ Ok None }
+        ensures onward { (next : _) → result ≡ Ok (Some next) → at < next }
         ensures damaged { IsTrue (D.tells disk.old).content → ¬ IsNotBorn self.now → (units : _) →
             ComesTo units at (D.content disk.old File.Journal) → (file : _) (place : _) →
             result ≡ Err (UnitError.Damaged file place) →

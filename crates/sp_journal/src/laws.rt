@@ -1,8 +1,8 @@
 //! What follows from the format alone.
-ghost use Rattle.std.specs.Prelude.{◌≡◌, ◌↔◌, List, ℕ};
+ghost use Rattle.std.specs.Prelude.{◌≡◌, ◌↔◌, ◌++◌, List, ℕ};
 ghost use Rattle.sp_unit.specs.UnitBytes.{UnitView};
 ghost use Rattle.sp_journal.specs.Damage.{IsDamaged, IsOtherVersion};
-ghost use Rattle.sp_journal.specs.Format.{EndsAt, HasUnits, IsUnborn};
+ghost use Rattle.sp_journal.specs.Format.{ComesTo, EndsAt, HasUnits, IsUnborn};
 ghost use Rattle.sp_journal.specs.Unsure.{KeepsUnits};
 
 /// Bytes have one list of units.
@@ -35,4 +35,10 @@ pub fn other_version_is_one()
 pub fn kept_units_are_the_same()
     ensures { (old : List ℕ) (new : List ℕ) (units : List UnitView) → KeepsUnits old new →
         HasUnits units old ↔ HasUnits units new }
+{}
+
+/// The units before a gate are the first of the file.
+pub fn units_before_a_gate_are_the_first()
+    ensures { (file : List ℕ) (before units : List UnitView) (place : ℕ) → ComesTo before place file → HasUnits units file →
+        (more : List UnitView) × (units ≡ before ++ more) }
 {}
