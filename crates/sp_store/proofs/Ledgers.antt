@@ -2,13 +2,12 @@
 use Rattle.std.proofs.Common.{◌≡◌, ◌∙◌, ℕ, List, [], ◌∷◌, ◌++◌, refl, sym, ap, subst, append_assoc, inl, inr}
 use Rattle.sp_event.specs.declared.answer.Reply.{Reply}
 use Rattle.sp_event.specs.declared.request.Event.{Event}
-use Rattle.sp_journal.specs.Format.{HasUnits}
 use Rattle.sp_journal.proofs.OneReading.{one_history}
 use Rattle.sp_journal.proofs.Prefixes.{first_units}
 use Rattle.sp_ledger.specs.Asked.{first_ledger}
 use Rattle.sp_ledger.specs.Events.{outcome}
 use Rattle.sp_ledger.specs.Ledger.{Ledger}
-use Rattle.sp_ledger.specs.Step.{Outcome, accepted}
+use Rattle.sp_ledger.specs.Step.{accepted}
 use Rattle.sp_store.specs.Opening.{MayOpen}
 use Rattle.sp_store.specs.Refused.{IsGood, IsRefusedAt}
 use Rattle.sp_store.specs.Units.{Accepts, Leads, IsLedgerOf, restart_unit}

@@ -42,9 +42,9 @@ Fits place max event unit = is_limited event ≡ true → place + need_of unit �
 pub record IsFull (place max : ℕ) (event : Event) (unit : UnitView) (len need most : ℕ) : Type 0 where
   pub limited : is_limited event ≡ true
   pub above : max < place + need_of unit
-  pub len : len ≡ place
-  pub need : need ≡ need_of unit
-  pub most : most ≡ max
+  pub at : len ≡ place
+  pub needed : need ≡ need_of unit
+  pub greatest : most ≡ max
 
 -- P tells of an unsure unit or none, of units and of a ledger whether the store then stands for them
 module _ (P : Option UnitView → List UnitView → Ledger → Type 0) (unit : UnitView) (units : List UnitView) (L : Ledger) where
@@ -72,6 +72,12 @@ module _ (P : Option UnitView → List UnitView → Ledger → Type 0) (unit : U
   Commits maybe place max event outcome result =
       ((result ≡ Err Disk) × (maybe ≢ None) × P maybe units L) ⊎ Comes place max event outcome result
 
--- these units, where one is unsure these or these and that one, or these and the committed one
-abbrev pub MayHave : Option UnitView → List UnitView → UnitView → List ℕ → Type 0
-MayHave maybe units unit file = HasUnitsMaybe maybe units file ⊎ HasUnits (units ++ unit ∷ []) file
+-- these units, or where the outcome is a change these and the committed one
+abbrev pub MayGrow : List UnitView → UnitView → Outcome → List ℕ → Type 0
+MayGrow units unit outcome file = HasUnits units file ⊎ (IsAccepted outcome × HasUnits (units ++ unit ∷ []) file)
+
+-- these units, where one is unsure these or these and that one, or where the outcome is a change these and the
+-- committed one
+abbrev pub MayHave : Option UnitView → List UnitView → UnitView → Outcome → List ℕ → Type 0
+MayHave maybe units unit outcome file =
+    HasUnitsMaybe maybe units file ⊎ (IsAccepted outcome × HasUnits (units ++ unit ∷ []) file)

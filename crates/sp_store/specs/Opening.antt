@@ -1,5 +1,5 @@
 -- What opening a journal gives, and what it leaves.
-use Rattle.std.specs.Prelude.{◌≡◌, ◌⊎◌, ◌++◌, ◌×◌, ℕ, List, [], ◌∷◌, Option, None, Result, Ok, Err, codes}
+use Rattle.std.specs.Prelude.{◌≡◌, ◌⊎◌, ◌++◌, ℕ, List, [], ◌∷◌, Result, Ok, Err, codes}
 use Rattle.sp_event.specs.declared.request.Event.TheVariants.{Restart}
 use Rattle.sp_journal.specs.Format.{HasUnits}
 use Rattle.sp_journal.specs.declared.journal.OpenError.{OpenError}

@@ -1,5 +1,5 @@
 -- What inner calls need.
-use Rattle.std.specs.Prelude.{◌≡◌, ◌++◌, ◌<◌, ⊤, ℕ, Bool, true, false, List, [], ◌∷◌, Option, Some, None, Result, Ok, Err}
+use Rattle.std.specs.Prelude.{◌++◌, ⊤, ℕ, Bool, true, false, List, [], ◌∷◌, Option, Some, None, Result, Ok, Err}
 use Rattle.sp_base.specs.declared.failure.Memory.{Memory}
 use Rattle.sp_core.specs.Stands.{Stands}
 use Rattle.sp_core.specs.State.{CoreState}

@@ -3,7 +3,7 @@ use Rattle.std.specs.Prelude.{ℕ, List, Option}
 use Rattle.sp_core.specs.Stands.{Stands}
 use Rattle.sp_core.specs.State.{CoreState}
 use Rattle.sp_disk.specs.Disk.{Folder, Telling}
-use Rattle.sp_journal.specs.State as journal
+use Rattle.sp_journal.specs.State as journals
 use Rattle.sp_journal.specs.declared.journal.Journal.{Journal}
 use Rattle.sp_ledger.specs.Ledger.{Ledger}
 use Rattle.sp_store.specs.Units.{IsLedgerOf}
@@ -22,7 +22,7 @@ pub record StoreState (D : Type 0) : Type 0 where
 pub record Holds {D : Type 0} (tells : D → Telling) (content : D → Folder) (may_leave : D → Folder → Type 0)
     (maybe : Option UnitView) (units : List UnitView) (L : Ledger) (journal : Journal) (core : CoreState) (disk : D)
     : Type 0 where
-  pub on_disk : journal.StandsFor tells content may_leave maybe units journal disk
+  pub on_disk : journals.StandsFor tells content may_leave maybe units journal disk
   pub is_ledger : IsLedgerOf units L
   pub stands : Stands core L
 

@@ -1,5 +1,5 @@
 -- The ledger to which units lead.
-use Rattle.std.specs.Prelude.{◌≡◌, ◌++◌, ℕ, List, [], ◌∷◌, codes}
+use Rattle.std.specs.Prelude.{◌≡◌, List, [], ◌∷◌, codes}
 use Rattle.sp_event.specs.declared.answer.Reply.{Reply}
 use Rattle.sp_event.specs.declared.request.Event.{Event}
 use Rattle.sp_event.specs.declared.request.Event.TheVariants.{Restart}

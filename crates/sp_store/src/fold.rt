@@ -1,5 +1,5 @@
 //! The ledger of a journal's units.
-ghost use Rattle.std.specs.Prelude.{◌≡◌, ◌<◌, ◌≤◌, [], List, ℕ, IfOk, IfSome, IsTrue, None};
+ghost use Rattle.std.specs.Prelude.{◌≡◌, ◌<◌, ◌≤◌, [], List, ℕ, IfOk, IfSome, IsTrue, None, ◌⊎◌};
 ghost use Rattle.sp_base.specs.Causes.{Rose};
 ghost use Rattle.sp_core.specs.Stands.{Stands};
 ghost use Rattle.sp_disk.specs.Looked.{Looked};
@@ -35,7 +35,7 @@ fn unit_at<D: Disk>(
     ensures one { IsTrue (D.tells disk.old).content → ¬ IsNotBorn journal.now → (units : List UnitView) →
         ComesTo units at (D.content disk.old File.Journal) →
         IfOk result (GivesOne units at (D.content disk.old File.Journal)) }
-    ensures unborn { IsNotBorn journal.now → IfOk result (λ found. found ≡ None) }
+    ensures unborn { IsNotBorn journal.now → result ≡ Ok None }
     ensures onward { IfOk result (λ found. IfSome found (λ one. at < one.1)) }
     ensures damaged { IsTrue (D.tells disk.old).content → ¬ IsNotBorn journal.now → (units : List UnitView) →
         ComesTo units at (D.content disk.old File.Journal) → (file : _) (place : _) →
@@ -104,13 +104,14 @@ pub(crate) fn fold<D: Disk>(
     let mut body = Vec::new(alloc);
     let mut at = FIRST_PLACE;
     'units: loop {
-        let Some((unit, next)) = unit_at(alloc, journal, disk, at, &mut body)? else {
-            return Ok(core);
-        };
-        match take_in(alloc, &mut core, &unit) {
-            Ok(true) => at = next,
-            Ok(false) => return Err(OpenError::Damaged { file: 0, at }),
-            Err(Memory) => return Err(OpenError::Memory),
+        match unit_at(alloc, journal, disk, at, &mut body) {
+            Err(error) => return Err(error),
+            Ok(None) => return Ok(core),
+            Ok(Some((unit, next))) => match take_in(alloc, &mut core, &unit) {
+                Ok(true) => at = next,
+                Ok(false) => return Err(OpenError::Damaged { file: 0, at }),
+                Err(Memory) => return Err(OpenError::Memory),
+            },
         }
     }
 }

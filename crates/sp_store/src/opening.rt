@@ -1,5 +1,5 @@
 //! A journal is opened: its units are folded, and flows that were bound go by a restart.
-ghost use Rattle.std.specs.Prelude.{◌≡◌, ◌≤◌, ◌⊎◌, ◌∷◌, [], List, ℕ, IfOk, IfSome, IsTrue, None, true, codes};
+ghost use Rattle.std.specs.Prelude.{◌≡◌, ◌≤◌, ◌⊎◌, ◌∷◌, [], List, ℕ, IfOk, IfSome, IsTrue, None, true, codes, OnOk};
 ghost use Rattle.sp_base.specs.Causes.{Rose};
 ghost use Rattle.sp_base.specs.Name.{is_caller};
 ghost use Rattle.sp_core.specs.Stands.{Stands};
@@ -8,9 +8,8 @@ ghost use Rattle.sp_disk.specs.Everywhere.{Became, Reached, Vouches};
 ghost use Rattle.sp_disk.specs.Moments.{LeavesOnly};
 ghost use Rattle.sp_journal.specs.Damage.{IsDamaged, IsOtherVersion};
 ghost use Rattle.sp_journal.specs.Format.{HasUnits};
-ghost use Rattle.sp_journal.specs.State.{Rests};
-ghost use Rattle.sp_journal.specs.Unsure.{HasUnitsOr};
 ghost use Rattle.sp_ledger.specs.Ledger.{Ledger};
+ghost use Rattle.sp_store.specs.Commit.{MayGrow};
 ghost use Rattle.sp_store.specs.Opening.{MayOpen, Restarts, restarted};
 ghost use Rattle.sp_store.specs.Refused.{IsRefusedAt};
 ghost use Rattle.sp_store.specs.State.{Holds};
@@ -44,6 +43,17 @@ fn system(alloc: Global) -> Result<Name, Memory>
     Ok(name)
 }
 
+// What is told of a restart that wasn't committed. Nothing refuses one, and it has no limit.
+fn opening_error(fault: CommitFault) -> OpenError
+    ensures error { (result ≡ OpenError.DiskFault) ⊎ (result ≡ OpenError.Memory) }
+    ensures disk { result ≡ OpenError.DiskFault → fault ≡ CommitFault.Disk }
+{
+    match fault {
+        CommitFault::Disk => OpenError::DiskFault,
+        _ => OpenError::Memory,
+    }
+}
+
 // Commits a restart.
 fn restart<D: Disk>(
     alloc: Global,
@@ -51,13 +61,15 @@ fn restart<D: Disk>(
     journal: &mut Journal,
     core: &mut Core,
 ) -> Result<(), OpenError>
-    requires rests { (units : List UnitView) × Rests D.tells D.content D.may_leave units journal.old disk.old }
+    requires holds { (units : List UnitView) × (L : Ledger) ×
+        Holds D.tells D.content D.may_leave None units L journal.old core.old disk.old }
     ensures restarts { (units : List UnitView) (L : Ledger) →
         Holds D.tells D.content D.may_leave None units L journal.old core.old disk.old →
         OnOk result (Restarts (λ us M. Holds D.tells D.content D.may_leave None us M journal.new core.new disk.new) units L (restarted L)) }
-    ensures any_moment { (units : List UnitView) → Rests D.tells D.content D.may_leave units journal.old disk.old →
+    ensures any_moment { (units : List UnitView) (L : Ledger) →
+        Holds D.tells D.content D.may_leave None units L journal.old core.old disk.old →
         Vouches (D.tells disk.old) → LeavesOnly D.moment D.left_since disk.old disk.new
-        (Became File.Journal (HasUnitsOr units restart_unit) (D.may_leave disk.old)) }
+        (Became File.Journal (MayGrow units restart_unit (restarted L)) (D.may_leave disk.old)) }
     ensures others { SameElsewhere File.Journal (D.content disk.old) (D.content disk.new) }
     ensures telling { D.tells disk.new ≡ D.tells disk.old }
     ensures later { D.faults disk.old ≤ D.faults disk.new }
@@ -69,10 +81,18 @@ fn restart<D: Disk>(
     };
     let event = Event::Restart;
     let unit = slice::from_ref(&event);
-    match put(alloc, disk, journal, core, u64::MAX, Moment::START, &system, unit) {
+    match put(
+        alloc,
+        disk,
+        journal,
+        core,
+        u64::MAX,
+        Moment::START,
+        &system,
+        unit,
+    ) {
         Ok(_) => Ok(()),
-        Err(CommitFault::Disk) => Err(OpenError::DiskFault),
-        Err(_) => Err(OpenError::Memory),
+        Err(fault) => Err(opening_error(fault)),
     }
 }
 

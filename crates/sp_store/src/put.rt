@@ -1,5 +1,5 @@
 //! A unit is committed: written behind the last gate, and then carried out.
-ghost use Rattle.std.specs.Prelude.{◌≡◌, ◌≤◌, ◌++◌, ◌∷◌, [], List, ℕ, length, true, IfOk, IfErr, None, Some, Option};
+ghost use Rattle.std.specs.Prelude.{◌≡◌, ◌≤◌, ◌++◌, ◌∷◌, [], List, ℕ, length, true, IfOk, IfErr, None, Some, Option, false, ◌-◌, ◌^◌};
 ghost use Rattle.sp_base.specs.Causes.{Rose};
 ghost use Rattle.sp_base.specs.Name.{is_caller};
 ghost use Rattle.sp_core.specs.Decided.{IsPrepared};
@@ -13,7 +13,7 @@ ghost use Rattle.sp_journal.specs.State.{Rests, StandsFor as JournalFor, place_o
 ghost use Rattle.sp_journal.specs.Unsure.{HasUnitsOr};
 ghost use Rattle.sp_ledger.specs.Events.{outcome};
 ghost use Rattle.sp_ledger.specs.Ledger.{Ledger};
-ghost use Rattle.sp_store.specs.Commit.{Comes, Commits, MayHave, Receives, is_limited, need_of};
+ghost use Rattle.sp_store.specs.Commit.{Comes, Commits, MayGrow, MayHave, Receives, is_limited, need_of};
 ghost use Rattle.sp_store.specs.Parts.{Writes};
 ghost use Rattle.sp_store.specs.State.{Holds};
 ghost use Rattle.sp_unit.specs.UnitBytes.{UnitView, IsUnit};
@@ -117,9 +117,18 @@ fn write<D: Disk>(
     }
 }
 
+// What is told of a refusal.
+fn refused_by(refused: EventRefusal) -> CommitFault
+    ensures { result ≡ CommitFault.Refused refused.index refused.refusal }
+{
+    let EventRefusal { index, refusal } = refused;
+    CommitFault::Refused { index, refusal }
+}
+
 // Carries out what was decided.
 fn finish(core: &mut Core, ready: Ready) -> Receipt
-    requires { (caller : List ℕ) × (event : Event) × IsPrepared core.old caller event ready }
+    requires prepared { (caller : List ℕ) × (event : Event) × IsPrepared core.old caller event ready }
+    requires stands { (L : Ledger) × Stands core.old L }
     ensures { (caller : List ℕ) (event : Event) → IsPrepared core.old caller event ready → (L : Ledger) → Stands core.old L →
         (unit : UnitView) (units : List UnitView) →
         Receives (λ maybe us M. Stands core.new M) unit units L (outcome ready.moment caller event L) result }
@@ -144,7 +153,8 @@ pub(crate) fn put<D: Disk>(
     from: &Name,
     unit: &[Event],
 ) -> Result<Receipt, CommitFault>
-    requires rests { (units : List UnitView) × Rests D.tells D.content D.may_leave units journal.old disk.old }
+    requires holds { (units : List UnitView) × (L : Ledger) ×
+        Holds D.tells D.content D.may_leave None units L journal.old core.old disk.old }
     requires one { length unit.now ≡ 1 }
     requires caller { is_caller from.now ≡ true }
     ensures comes { let v : UnitView = record { moment = now; caller = from.now; events = unit.now } in
@@ -154,9 +164,11 @@ pub(crate) fn put<D: Disk>(
         Comes (λ maybe us M. Holds D.tells D.content D.may_leave maybe us M journal.new core.new disk.new) v units L
         (place_of journal.old) max event (outcome now from.now event L) result }
     ensures any_moment { let v : UnitView = record { moment = now; caller = from.now; events = unit.now } in
-        (units : List UnitView) → Rests D.tells D.content D.may_leave units journal.old disk.old →
+        (units : List UnitView) (L : Ledger) →
+        Holds D.tells D.content D.may_leave None units L journal.old core.old disk.old →
+        (event : Event) → unit.now ≡ event ∷ [] →
         Vouches (D.tells disk.old) → LeavesOnly D.moment D.left_since disk.old disk.new
-        (Became File.Journal (HasUnitsOr units v) (D.may_leave disk.old)) }
+        (Became File.Journal (MayGrow units v (outcome now from.now event L)) (D.may_leave disk.old)) }
     ensures others { SameElsewhere File.Journal (D.content disk.old) (D.content disk.new) }
     ensures telling { D.tells disk.new ≡ D.tells disk.old }
     ensures later { D.faults disk.old ≤ D.faults disk.new }
@@ -164,9 +176,7 @@ pub(crate) fn put<D: Disk>(
 {
     let ready = match core.prepare(alloc, now, from, unit) {
         Ok(ready) => ready,
-        Err(Declined::Refused(EventRefusal { index, refusal })) => {
-            return Err(CommitFault::Refused { index, refusal });
-        }
+        Err(Declined::Refused(refused)) => return Err(refused_by(refused)),
         Err(Declined::Memory) => return Err(CommitFault::Memory),
     };
     if ready.idle() {
@@ -189,8 +199,8 @@ pub(crate) fn heal_and_put<D: Disk>(
     from: &Name,
     unit: &[Event],
 ) -> Result<Receipt, CommitFault>
-    requires stands { (maybe : Option UnitView) × (units : List UnitView) ×
-        JournalFor D.tells D.content D.may_leave maybe units journal.old disk.old }
+    requires holds { (maybe : Option UnitView) × (units : List UnitView) × (L : Ledger) ×
+        Holds D.tells D.content D.may_leave maybe units L journal.old core.old disk.old }
     requires one { length unit.now ≡ 1 }
     requires caller { is_caller from.now ≡ true }
     ensures commits { let v : UnitView = record { moment = now; caller = from.now; events = unit.now } in
@@ -200,10 +210,11 @@ pub(crate) fn heal_and_put<D: Disk>(
         Commits (λ unsure us M. Holds D.tells D.content D.may_leave unsure us M journal.new core.new disk.new) v units L
         maybe (place_of journal.old) max event (outcome now from.now event L) result }
     ensures any_moment { let v : UnitView = record { moment = now; caller = from.now; events = unit.now } in
-        (maybe : Option UnitView) (units : List UnitView) →
-        JournalFor D.tells D.content D.may_leave maybe units journal.old disk.old →
+        (maybe : Option UnitView) (units : List UnitView) (L : Ledger) →
+        Holds D.tells D.content D.may_leave maybe units L journal.old core.old disk.old →
+        (event : Event) → unit.now ≡ event ∷ [] →
         Vouches (D.tells disk.old) → LeavesOnly D.moment D.left_since disk.old disk.new
-        (Became File.Journal (MayHave maybe units v) (D.may_leave disk.old)) }
+        (Became File.Journal (MayHave maybe units v (outcome now from.now event L)) (D.may_leave disk.old)) }
     ensures others { SameElsewhere File.Journal (D.content disk.old) (D.content disk.new) }
     ensures telling { D.tells disk.new ≡ D.tells disk.old }
     ensures later { D.faults disk.old ≤ D.faults disk.new }

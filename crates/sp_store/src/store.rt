@@ -137,13 +137,14 @@ impl<D: Disk> Store<D> {
             Commits (λ unsure us M. StandsFor D.tells D.content D.may_leave unsure us M self.new)
             (record { moment = now; caller = from.now; events = unit.now }) units L
             maybe (place_of self.old.journal) self.old.max event (outcome now from.now event L) result }
-        // A crash at any moment of the call leaves the units from before it, or those and the event's; where a gate was
-        // unsure, maybe those and the unsure one.
+        // A crash at any moment of the call leaves the units from before it, or where the event changes something those
+        // and its own; where a gate was unsure, maybe those and the unsure one.
         ensures any_moment { (maybe : Option UnitView) (units : List UnitView) (L : Ledger) →
             StandsFor D.tells D.content D.may_leave maybe units L self.old →
+            (event : Event) → unit.now ≡ event ∷ [] →
             Vouches (D.tells self.old.disk) → LeavesOnly D.moment D.left_since self.old.disk self.new.disk
-            (Became File.Journal (MayHave maybe units (record { moment = now; caller = from.now; events = unit.now }))
-            (D.may_leave self.old.disk)) }
+            (Became File.Journal (MayHave maybe units (record { moment = now; caller = from.now; events = unit.now })
+            (outcome now from.now event L)) (D.may_leave self.old.disk)) }
         ensures max { self.new.max ≡ self.old.max }
         ensures others { SameElsewhere File.Journal (D.content self.old.disk) (D.content self.new.disk) }
         ensures telling { D.tells self.new.disk ≡ D.tells self.old.disk }

@@ -200,7 +200,16 @@ fn a_unit_that_does_not_fit_is_refused_with_its_bytes(rt: HostRuntime) -> Result
         assert!(rt; matches!(commit(alloc, &mut store, step), Some(Ok(_))));
     }
     let third = commit(alloc, &mut store, Step::Publish);
-    assert!(rt; matches!(third, Some(Err(CommitFault::Full { len: 85, need: 46, max: 100 }))));
+    assert!(rt;
+        matches!(
+            third,
+            Some(Err(CommitFault::Full {
+                len: 85,
+                need: 46,
+                max: 100
+            }))
+        )
+    );
     assert_eq!(rt; store.units(), 2);
     Ok(())
 }
@@ -327,7 +336,10 @@ fn an_opening_that_fails_at_any_call_leaves_the_units(rt: HostRuntime) -> Result
 fn commit_fails_well(alloc: Global, call: u64, failure: Failure) -> Option<bool> {
     let disk = failing(alloc, ONE_UNIT, call, failure)?;
     let mut store = after(alloc, disk, &[])?;
-    if !matches!(commit(alloc, &mut store, Step::Publish)?, Err(CommitFault::Disk)) {
+    if !matches!(
+        commit(alloc, &mut store, Step::Publish)?,
+        Err(CommitFault::Disk)
+    ) {
         return Some(false);
     }
     if let Failure::Stop = failure {
