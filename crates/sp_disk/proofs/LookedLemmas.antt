@@ -1,5 +1,5 @@
 -- How a run of reading calls goes on.
-use Rattle.std.proofs.Common.{◌≡◌, ◌∙◌, refl, sym, ap, subst, ℕ, List, IsTrue}
+use Rattle.std.proofs.Common.{◌≡◌, ◌∙◌, refl, sym, ap, subst, ℕ, IsTrue}
 use Rattle.sp_disk.specs.Disk.{Folder, Telling, AddsNone, SameImages}
 use Rattle.sp_disk.specs.Looked.{Looked}
 use Rattle.sp_disk.specs.Moments.{LeavesOnly, Passes}

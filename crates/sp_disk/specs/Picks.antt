@@ -1,6 +1,6 @@
 -- The images that a number picks. Each write and cut of a file since its last sync that succeeded takes one digit of
 -- the number to the base 8, the last digit first, those of the journal before those of the image.
-use Rattle.std.specs.Prelude.{◌≡◌, ℕ, ◌+◌, ◌-◌, ◌/◌, ◌%◌, ◌==◌, min, Bool, true, false, cond, if◌then◌else◌, List, [], ◌∷◌, ◌++◌, length, take, replicate}
+use Rattle.std.specs.Prelude.{ℕ, ◌+◌, ◌-◌, ◌/◌, ◌%◌, ◌==◌, min, Bool, false, cond, if◌then◌else◌, List, [], ◌∷◌, ◌++◌, length, take, replicate}
 use Rattle.sp_disk.specs.Disk.{Folder, written}
 use Rattle.sp_disk.specs.Calls.{same_file, first_half, after_one}
 use Rattle.sp_disk.specs.declared.disk.File.{File}

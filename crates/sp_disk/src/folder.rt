@@ -1,13 +1,12 @@
 //! A disk over the files of a folder.
-ghost use Rattle.std.specs.Prelude.{◌≡◌, ◌≤◌, ◌<◌, length, Ok, IfOk, OnOk};
+ghost use Rattle.std.specs.Prelude.{◌≡◌, Ok, IfOk, OnOk};
 ghost use Rattle.sp_base.specs.Causes.{HasCause};
 ghost use Rattle.sp_disk.specs.Disk.{Telling};
 
 use crate::disk::{Disk, File};
+use crate::locked_files::LockedFiles;
 use sp_base::failure::Failed;
-use std::fs::{Files, OpenOptions};
-use std::io::ErrorKind;
-use std::os::unix::fs::FileExt;
+use std::fs::Files;
 use std::{fs, io};
 
 /// The paths of a folder and of the files in it.
@@ -21,16 +20,20 @@ pub struct Paths {
 /// The disk of a running program: the files of a folder, each made at its first write. A file that
 /// isn't there reads as empty, and its sync does nothing. It tells nothing: what its files hold is the
 /// system's.
+///
+/// Its first call, also one that only reads, opens the folder and takes the system's lock on it. The
+/// disk keeps the lock while it lives. A call answers [`Failed`] where the folder can't be opened, or
+/// where another disk has the lock, in this program or in another. No call waits for the lock, and
+/// after one that was refused the next call asks for it again.
 #[derive(Drop)]
 pub struct FolderDisk<R: Files<File = fs::File>> {
-    runtime: R,
-    files: NamedFiles,
+    files: LockedFiles<R>,
     faults: u64,
 }
 
 impl<R: Files<File = fs::File>> FolderDisk<R> {
     /// The disk of `journal.sp` and `image.sp` in the folder in which the runtime works. Nothing is
-    /// opened or made yet.
+    /// opened, locked or made yet.
     pub fn new(runtime: R) -> FolderDisk<R>
         ensures { ⟦<FolderDisk<R> as Disk>⟧.faults result ≡ 0 }
     {
@@ -42,14 +45,13 @@ impl<R: Files<File = fs::File>> FolderDisk<R> {
         FolderDisk::at(runtime, here)
     }
 
-    /// The disk of the files at these paths, whose folder has to be there. Nothing is opened or made
-    /// yet.
+    /// The disk of the files at these paths, whose folder has to be there at the first call. Nothing is
+    /// opened, locked or made yet.
     pub fn at(runtime: R, paths: Paths) -> FolderDisk<R>
         ensures { ⟦<FolderDisk<R> as Disk>⟧.faults result ≡ 0 }
     {
         FolderDisk {
-            runtime,
-            files: NamedFiles::new(paths),
+            files: LockedFiles::new(runtime, paths),
             faults: 0,
         }
     }
@@ -81,27 +83,27 @@ impl<R: Files<File = fs::File>> Disk for FolderDisk<R> {
     ghost earlier = { λ _ _ _ _ _ left. left };
 
     fn len(&mut self, file: File) -> Result<u64, Failed> {
-        let answer = self.files.of(file).len(&self.runtime);
+        let answer = self.files.len(file);
         counted(&mut self.faults, answer)
     }
 
     fn read(&mut self, file: File, at: u64, into: &mut [u8]) -> Result<usize, Failed> {
-        let answer = self.files.of(file).read(&self.runtime, at, into);
+        let answer = self.files.read(file, at, into);
         counted(&mut self.faults, answer)
     }
 
     fn write(&mut self, file: File, at: u64, bytes: &[u8]) -> Result<(), Failed> {
-        let answer = self.files.of(file).write(&self.runtime, at, bytes);
+        let answer = self.files.write(file, at, bytes);
         counted(&mut self.faults, answer)
     }
 
     fn cut(&mut self, file: File, len: u64) -> Result<(), Failed> {
-        let answer = self.files.of(file).cut(&self.runtime, len);
+        let answer = self.files.cut(file, len);
         counted(&mut self.faults, answer)
     }
 
     fn sync(&mut self, file: File) -> Result<(), Failed> {
-        let answer = self.files.of(file).sync(&self.runtime);
+        let answer = self.files.sync(file);
         counted(&mut self.faults, answer)
     }
 }
@@ -119,156 +121,4 @@ fn counted<T: Drop>(faults: &mut u64, answer: io::Result<T>) -> Result<T, Failed
             Err(Failed)
         }
     }
-}
-
-#[derive(Drop)]
-struct NamedFiles {
-    journal: NamedFile,
-    image: NamedFile,
-}
-
-impl NamedFiles {
-    fn new(paths: Paths) -> NamedFiles {
-        NamedFiles {
-            journal: NamedFile::new(paths.folder, paths.journal),
-            image: NamedFile::new(paths.folder, paths.image),
-        }
-    }
-
-    fn of(&mut self, file: File) -> &mut NamedFile {
-        match file {
-            File::Journal => &mut self.journal,
-            File::Image => &mut self.image,
-        }
-    }
-}
-
-// A file of the folder, which need not be there.
-#[derive(Drop)]
-struct NamedFile {
-    folder: &'static str,
-    path: &'static str,
-    open: Option<fs::File>,
-    // Whether the folder's entry for the file was synced since the file was opened or made.
-    entered: bool,
-}
-
-impl NamedFile {
-    fn new(folder: &'static str, path: &'static str) -> NamedFile {
-        NamedFile {
-            folder,
-            path,
-            open: None,
-            entered: false,
-        }
-    }
-
-    // Opens the file where it is there.
-    fn find<R: Files<File = fs::File>>(&mut self, runtime: &R) -> io::Result<()> {
-        if self.open.is_none() {
-            match OpenOptions::new()
-                .read(true)
-                .write(true)
-                .open(runtime, self.path)
-            {
-                Ok(file) => self.open = Some(file),
-                Err(e) => {
-                    if e.kind() != ErrorKind::NotFound {
-                        return Err(e);
-                    }
-                }
-            }
-        }
-        Ok(())
-    }
-
-    fn len<R: Files<File = fs::File>>(&mut self, runtime: &R) -> io::Result<u64> {
-        self.find(runtime)?;
-        match &self.open {
-            Some(file) => Ok(file.metadata()?.len()),
-            None => Ok(0),
-        }
-    }
-
-    fn read<R: Files<File = fs::File>>(
-        &mut self,
-        runtime: &R,
-        at: u64,
-        into: &mut [u8],
-    ) -> io::Result<usize>
-        ensures { IfOk result (λ count. count ≤ length into.new) }
-    {
-        self.find(runtime)?;
-        match &self.open {
-            Some(file) => read_all_at(file, at, into),
-            None => Ok(0),
-        }
-    }
-
-    fn write<R: Files<File = fs::File>>(
-        &mut self,
-        runtime: &R,
-        at: u64,
-        bytes: &[u8],
-    ) -> io::Result<()> {
-        self.find(runtime)?;
-        if self.open.is_none() {
-            let made = OpenOptions::new()
-                .read(true)
-                .write(true)
-                .create(true)
-                .open(runtime, self.path)?;
-            self.open = Some(made);
-        }
-        match &self.open {
-            Some(file) => file.write_all_at(bytes, at),
-            None => Ok(()),
-        }
-    }
-
-    // A cut never makes a file longer.
-    fn cut<R: Files<File = fs::File>>(&mut self, runtime: &R, len: u64) -> io::Result<()> {
-        self.find(runtime)?;
-        match &self.open {
-            Some(file) => {
-                if len < file.metadata()?.len() {
-                    file.set_len(len)?;
-                }
-                Ok(())
-            }
-            None => Ok(()),
-        }
-    }
-
-    // Syncs the file, and with its first sync the folder, which has the file's entry.
-    fn sync<R: Files<File = fs::File>>(&mut self, runtime: &R) -> io::Result<()> {
-        self.find(runtime)?;
-        let Some(file) = &self.open else {
-            return Ok(());
-        };
-        file.sync_all()?;
-        if !self.entered {
-            fs::File::open(runtime, self.folder)?.sync_all()?;
-            self.entered = true;
-        }
-        Ok(())
-    }
-}
-
-// Reads up to the end of the buffer or the file.
-fn read_all_at(file: &fs::File, at: u64, into: &mut [u8]) -> io::Result<usize>
-    ensures { IfOk result (λ count. count ≤ length into.new) }
-{
-    let mut filled = 0;
-    while filled < into.len() {
-        let Some(place) = at.checked_add(filled as u64) else {
-            break;
-        };
-        let count = file.read_at(&mut into[filled..], place)?;
-        if count == 0 {
-            break;
-        }
-        filled += count;
-    }
-    Ok(filled)
 }

@@ -7,6 +7,8 @@ mod crash;
 pub mod disk;
 pub mod flat;
 pub mod folder;
+mod locked_files;
 pub mod memory;
+mod named_file;
 #[cfg(test)]
 mod tests;

@@ -4,8 +4,8 @@ use crate::flat::FlatDisk;
 use crate::folder::{FolderDisk, Paths};
 use crate::memory::MemoryDisk;
 use sp_base::failure::Failed;
-use std::fs;
 use std::test::Fail;
+use std::{env, fs};
 
 const J: File = File::Journal;
 
@@ -243,15 +243,91 @@ fn a_folder_keeps_its_files(rt: HostRuntime) -> Result<(), Fail> {
     assert!(rt; into[..4] == b"bcd\0"[..]);
     assert_eq!(rt; disk.cut(J, 2), Ok(()));
     assert_eq!(rt; disk.len(J), Ok(2));
+    assert_eq!(rt; disk.sync(J), Ok(()));
     assert_eq!(rt; disk.len(I), Ok(0));
     assert_eq!(rt; fs::metadata(&rt, OWN.journal)?.len(), 2);
+    drop(disk);
     let mut reopened = FolderDisk::at(&rt, OWN);
     assert_eq!(rt; reopened.len(J), Ok(2));
     assert_eq!(rt; reopened.read(J, 0, &mut into), Ok(2));
     assert!(rt; into[..2] == b"ab"[..]);
     assert_eq!(rt; reopened.sync(J), Ok(()));
     fs::remove_dir_all(&rt, OWN.folder)?;
-    // The disk of the program works in the folder that it is run in.
-    assert_eq!(rt; FolderDisk::new(&rt).len(J), Ok(0));
+    Ok(())
+}
+
+// In a folder of its own, since whoever runs the tests may have a lock on the one that they are run in.
+#[test]
+fn a_program_has_the_folder_that_it_runs_in(rt: HostRuntime) -> Result<(), Fail> {
+    let _ = fs::remove_dir_all(&rt, "folder_of_a_program");
+    fs::create_dir(&rt, "folder_of_a_program")?;
+    env::set_current_dir(&rt, "folder_of_a_program")?;
+    let mut disk = FolderDisk::new(&rt);
+    assert_eq!(rt; disk.len(J), Ok(0));
+    assert_eq!(rt; disk.write(I, 0, b"abcd"), Ok(()));
+    assert_eq!(rt; fs::metadata(&rt, "image.sp")?.len(), 4);
+    assert_eq!(rt; FolderDisk::new(&rt).len(J), Err(Failed));
+    drop(disk);
+    assert_eq!(rt; FolderDisk::new(&rt).len(I), Ok(4));
+    env::set_current_dir(&rt, "..")?;
+    fs::remove_dir_all(&rt, "folder_of_a_program")?;
+    Ok(())
+}
+
+const SHARED: Paths = Paths {
+    folder: "folder_of_two_disks",
+    journal: "folder_of_two_disks/journal.sp",
+    image: "folder_of_two_disks/image.sp",
+};
+
+#[test]
+fn a_folder_is_one_disk_at_a_time(rt: HostRuntime) -> Result<(), Fail> {
+    let _ = fs::remove_dir_all(&rt, SHARED.folder);
+    fs::create_dir(&rt, SHARED.folder)?;
+    // A disk that wasn't called yet has no lock.
+    let mut second = FolderDisk::at(&rt, SHARED);
+    let mut into = [0u8; 8];
+    let mut first = FolderDisk::at(&rt, SHARED);
+    assert_eq!(rt; first.len(J), Ok(0));
+    assert_eq!(rt; second.len(J), Err(Failed));
+    assert_eq!(rt; second.read(I, 0, &mut into), Err(Failed));
+    assert_eq!(rt; second.write(J, 0, b"wxyz"), Err(Failed));
+    assert_eq!(rt; second.cut(J, 0), Err(Failed));
+    assert_eq!(rt; second.sync(I), Err(Failed));
+    assert!(rt; fs::metadata(&rt, SHARED.journal).is_err());
+    // The first one goes on, on both of its files.
+    assert_eq!(rt; first.write(J, 0, b"abcd"), Ok(()));
+    assert_eq!(rt; first.sync(J), Ok(()));
+    assert_eq!(rt; first.write(I, 0, b"ef"), Ok(()));
+    assert_eq!(rt; first.sync(I), Ok(()));
+    assert_eq!(rt; second.cut(J, 0), Err(Failed));
+    assert_eq!(rt; first.len(J), Ok(4));
+    drop(first);
+    assert_eq!(rt; second.len(J), Ok(4));
+    assert_eq!(rt; second.read(I, 0, &mut into), Ok(2));
+    assert!(rt; into[..2] == b"ef"[..]);
+    assert_eq!(rt; second.write(J, 4, b"gh"), Ok(()));
+    assert_eq!(rt; second.sync(J), Ok(()));
+    assert_eq!(rt; second.cut(J, 5), Ok(()));
+    assert_eq!(rt; second.sync(J), Ok(()));
+    assert_eq!(rt; FolderDisk::at(&rt, SHARED).len(J), Err(Failed));
+    fs::remove_dir_all(&rt, SHARED.folder)?;
+    Ok(())
+}
+
+const MISSING: Paths = Paths {
+    folder: "folder_not_there",
+    journal: "folder_not_there/journal.sp",
+    image: "folder_not_there/image.sp",
+};
+
+#[test]
+fn a_folder_has_to_be_there(rt: HostRuntime) -> Result<(), Fail> {
+    let _ = fs::remove_dir_all(&rt, MISSING.folder);
+    let mut disk = FolderDisk::at(&rt, MISSING);
+    assert_eq!(rt; disk.len(J), Err(Failed));
+    fs::create_dir(&rt, MISSING.folder)?;
+    assert_eq!(rt; disk.len(J), Ok(0));
+    fs::remove_dir_all(&rt, MISSING.folder)?;
     Ok(())
 }

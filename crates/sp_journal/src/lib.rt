@@ -4,6 +4,8 @@
 mod birth;
 mod body;
 mod device;
+#[cfg(test)]
+mod fault_tests;
 mod gates;
 pub mod journal;
 pub mod laws;

@@ -2,7 +2,7 @@ use Rattle.std.proofs.Common.{◌≡◌, ◌+◌, ◌++◌, [], ◌∷◌, List,
 use Rattle.std.proofs.lemmas.List.{take_more, drop_more}
 use Rattle.sp_disk.specs.declared.call.Taken.{Taken}
 use Rattle.sp_disk.specs.Calls.{after_one, after_all, IsImage, LeavesOne}
-use Rattle.sp_disk.specs.Picks.{Pick, pick_one, pick_all}
+use Rattle.sp_disk.specs.Picks.{Pick, pick_all}
 use Rattle.sp_disk.specs.Replays.{picked_in}
 use Rattle.sp_disk.proofs.Grown.{after_push, one_more}
 use Rattle.sp_disk.proofs.crash.replayed.Goals as goal

@@ -1,5 +1,5 @@
 use Rattle.std.proofs.Common.{length, ◌-◌, ◌≤◌}
-use Rattle.sp_disk.proofs.folder.read_all_at.Given as goal
+use Rattle.sp_disk.proofs.named_file.read_all_at.Given as goal
 
 abbrev pub invariant-loop-filled : goal.invariant-loop-filled
 invariant-loop-filled l = l.filled ≤ length l.into
