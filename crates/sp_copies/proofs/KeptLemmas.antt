@@ -2,7 +2,7 @@
 use Rattle.std.proofs.Common.{◌≡◌, ℕ, List, map, sym, subst, ap, ◌∙◌}
 use Rattle.sp_copies.specs.declared.closed.ClosedCopy.{ClosedCopy}
 use Rattle.sp_copies.specs.declared.made.MadeCopy.{MadeCopy}
-use Rattle.sp_copies.specs.History.{History}
+use Rattle.sp_copies.specs.History.{History, used_bytes}
 use Rattle.sp_copies.specs.Kept.{Kept, Records}
 use Rattle.sp_copies.specs.Rows.{made_in}
 use Rattle.sp_copies.proofs.OfHistory.{made_back}
@@ -35,3 +35,10 @@ pub of_own : (P : List MadeCopy → List ClosedCopy → ℕ → Type 0) (kept se
     (G : History) × Records seen G × P G.made G.closed G.next → (H : History) → Records kept H →
     P H.made H.closed H.next
 of_own P kept seen e one H r = of_each P seen one H (seen_of kept seen e H r)
+
+-- they use the same bytes
+pub same_used : (kept : Kept) (G H : History) → Records kept G → Records kept H → (e : ℕ) →
+    used_bytes G e ≡ used_bytes H e
+same_used kept G H g h e =
+    ap (λ (made : List MadeCopy). used_bytes (record G { made = made }) e) (same_made kept G H g h)
+    ∙ ap (λ (closed : List ClosedCopy). used_bytes (record H { closed = closed }) e) (sym g.closed ∙ h.closed)

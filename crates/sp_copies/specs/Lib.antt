@@ -6,3 +6,4 @@ pub mod Kept
 pub mod Rows
 pub mod Sound
 pub mod Table
+pub mod Usage

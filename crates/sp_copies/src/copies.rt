@@ -9,6 +9,7 @@ mod read;
 
 use crate::closed::ClosedCopy;
 use crate::table::Table;
+use crate::usage::Usage;
 use sp_base::rows::Rows;
 use std::alloc::{AllocError, Global};
 use std::marker::Model;
@@ -19,6 +20,7 @@ use std::marker::Model;
 pub struct Copies {
     rows: Table,
     closed: Rows<ClosedCopy>,
+    usage: Usage,
     next: u64,
     spare: usize,
 }
@@ -43,6 +45,7 @@ impl Copies {
         Copies {
             rows: Table::new(alloc, next),
             closed: Rows::new(alloc),
+            usage: Usage::new(alloc),
             next,
             spare: 0,
         }
@@ -58,6 +61,7 @@ impl Copies {
         let later = rows_for(self.spooled(), more)?;
         self.rows.reserve(more)?;
         self.closed.reserve(later)?;
+        self.usage.reserve(more)?;
         self.spare = self.spare.max(more);
         Ok(())
     }

@@ -13,3 +13,4 @@ pub mod made;
 mod table;
 #[cfg(test)]
 mod tests;
+mod usage;

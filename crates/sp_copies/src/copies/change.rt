@@ -20,7 +20,10 @@ impl Copies {
         ensures room { self.old.spare ≤ self.new.spare + 1 }
     {
         let number = CopyNo::of(self.next);
+        let endpoint = copy.endpoint;
+        let size = copy.size;
         self.rows.add(numbered(number, copy));
+        self.usage.add(endpoint, size);
         self.next += 1;
         self.spare -= 1;
         number
@@ -65,7 +68,10 @@ impl Copies {
             moment: at,
         });
         if let Some(row) = self.rows.get(copy) {
+            let endpoint = row.endpoint;
+            let size = row.size;
             self.rows.set(row.closed(place));
+            self.usage.subtract(endpoint, size);
         }
     }
 

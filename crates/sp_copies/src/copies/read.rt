@@ -6,7 +6,6 @@ ghost use Rattle.sp_copies.specs.Kept.{Records};
 
 use crate::closed::Fate;
 use crate::copies::Copies;
-use crate::look::used_by;
 use crate::made::MadeCopy;
 use crate::{due, fates, holders};
 use sp_base::items::Items;
@@ -74,7 +73,7 @@ impl Copies {
         ensures value { (H : History) → Records self.now H → result ≡ used_bytes H endpoint }
         ensures bound { result ≤ 2 ^ 40 }
     {
-        used_by(self.rows.as_slice(), endpoint)
+        self.usage.used(endpoint)
     }
 
     /// How often a copy was handed out. The count stops at the greatest u64.

@@ -19,7 +19,9 @@ invariant_of-self c =
       history = with_given_back copy G;
       stands = rw (c.set.ensures.rows, c.given_back.ensures) (given_back_stands k copy _ c.in-Some.row G s at);
       follows = rw (c.set.ensures.rows, c.set.ensures.first, same) c.self.invariant.follows;
+      used = c.self.invariant.used;
       to_make = rw c.set.ensures.room c.self.invariant.to_make;
+      to_total = c.self.invariant.to_total;
       to_close = c.self.invariant.to_close;
     }
 

@@ -24,7 +24,9 @@ invariant_of-self c =
       history = with_held copy c.args.flow G;
       stands = rw (c.set.ensures.rows, c.held.ensures) (held_stands k copy c.args.flow _ row G s at free_now);
       follows = rw (c.set.ensures.rows, c.set.ensures.first, same) c.self.invariant.follows;
+      used = c.self.invariant.used;
       to_make = rw c.set.ensures.room c.self.invariant.to_make;
+      to_total = c.self.invariant.to_total;
       to_close = c.self.invariant.to_close;
     }
 
