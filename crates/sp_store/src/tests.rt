@@ -324,7 +324,7 @@ fn an_opening_that_fails_at_any_call_leaves_the_units(rt: HostRuntime) -> Result
         return Err(Memory);
     };
     assert!(rt; calls > 8);
-    for call in 1..calls + 1 {
+    for call in 1..=calls {
         assert!(rt; opening_fails_well(alloc, journal, call, Failure::Once) == Some(true));
         assert!(rt; opening_fails_well(alloc, journal, call, Failure::Stop) == Some(true));
     }
@@ -362,8 +362,12 @@ fn a_commit_that_fails_at_any_call_leaves_the_units_and_the_next_heals(
         return Err(Memory);
     };
     for call in 1..5 {
-        assert!(rt; commit_fails_well(alloc, opening + call, Failure::Once) == Some(true));
-        assert!(rt; commit_fails_well(alloc, opening + call, Failure::Stop) == Some(true));
+        assert!(rt;
+            commit_fails_well(alloc, opening.saturating_add(call), Failure::Once) == Some(true)
+        );
+        assert!(rt;
+            commit_fails_well(alloc, opening.saturating_add(call), Failure::Stop) == Some(true)
+        );
     }
     Ok(())
 }
