@@ -95,8 +95,7 @@ impl<D: Disk> Store<D> {
     }
 
     /// The state machine of the ledger of a journal's units, without a restart: the disk is only read.
-    /// The errors are
-    /// those of `open`.
+    /// An unborn journal has no units. The errors are those of `open`.
     pub fn look(alloc: Global, disk: &mut D) -> Result<Core, OpenError>
         ensures ledger { IfOk result (λ core. (units : List UnitView) × (L : Ledger) × IsLedgerOf units L × Stands core L
             × (IsTrue (D.tells disk.old).content → HasUnits units (D.content disk.old File.Journal))) }
