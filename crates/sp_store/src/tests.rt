@@ -1,5 +1,6 @@
 ghost use Rattle.sp_base.specs.Name.{is_caller};
-ghost use Rattle.std.specs.Prelude.{◌≡◌, IfSome, true};
+ghost use Rattle.sp_disk.specs.MemoryDisk.{taken_by};
+ghost use Rattle.std.specs.Prelude.{◌≡◌, [], IfSome, true};
 
 use crate::receipt::{CommitFault, Receipt};
 use crate::store::Store;
@@ -129,7 +130,9 @@ fn after(alloc: Global, disk: MemoryDisk, steps: &[Step]) -> Option<Store<Memory
     Some(store)
 }
 
-fn disk_with(alloc: Global, bytes: &[u8]) -> Option<MemoryDisk> {
+fn disk_with(alloc: Global, bytes: &[u8]) -> Option<MemoryDisk>
+    ensures { IfSome result (λ disk. taken_by disk ≡ []) }
+{
     MemoryDisk::new(alloc).with_file(File::Journal, bytes).ok()
 }
 
@@ -261,5 +264,113 @@ fn a_unit_whose_event_is_refused_is_damage_at_its_gate(rt: HostRuntime) -> Resul
         return Err(Memory);
     };
     assert!(rt; open_error(alloc, disk) == Some(OpenError::Damaged { file: 0, at: 40 }));
+    Ok(())
+}
+
+// Whether each of the first 64 images of a disk has as many units, and opens.
+fn images_have(alloc: Global, disk: &MemoryDisk, least: u64, most: u64) -> Option<bool> {
+    for number in 0..64 {
+        let mut image = disk.after_crash(alloc, number).ok()?;
+        let units = Store::look(alloc, &mut image).ok()?.units();
+        if units < least || most < units {
+            return Some(false);
+        }
+        let _store = after(alloc, image, &[])?;
+    }
+    Some(true)
+}
+
+// How a call of the disk fails: alone, or with all that follow.
+#[derive(Clone, Copy)]
+enum Failure {
+    Once,
+    Stop,
+}
+
+// A disk with this journal that fails at a call, counted from 1.
+fn failing(alloc: Global, journal: &[u8], call: u64, failure: Failure) -> Option<MemoryDisk> {
+    let disk = disk_with(alloc, journal)?;
+    match failure {
+        Failure::Once => Some(disk.failing(vec![in alloc; call].ok()?)),
+        Failure::Stop => Some(disk.stopping(call)),
+    }
+}
+
+// The journal of q1 with a flow that holds a copy: four units, and a restart is due.
+fn held(alloc: Global) -> Option<MemoryDisk> {
+    let steps = [Step::Provision, Step::Publish, Step::Bind, Step::Pull];
+    Some(after(alloc, MemoryDisk::new(alloc), &steps)?.into_disk())
+}
+
+// How many calls of the disk an opening makes.
+fn calls_of_opening(alloc: Global, journal: &[u8]) -> Option<u64> {
+    let disk = disk_with(alloc, journal)?;
+    let disk = after(alloc, disk, &[])?.into_disk();
+    Some(disk.calls().len() as u64)
+}
+
+// Whether an opening that fails at a call gives the disk back, with the four units or those and the restart.
+fn opening_fails_well(alloc: Global, journal: &[u8], call: u64, failure: Failure) -> Option<bool> {
+    let disk = failing(alloc, journal, call, failure)?;
+    let (disk, error) = Store::open(alloc, disk, u64::MAX).err()?;
+    Some(error == OpenError::DiskFault && images_have(alloc, &disk, 4, 5)?)
+}
+
+#[test]
+fn an_opening_that_fails_at_any_call_leaves_the_units(rt: HostRuntime) -> Result<(), Memory> {
+    let alloc = rt.alloc();
+    let Some(disk) = held(alloc) else {
+        return Err(Memory);
+    };
+    let journal = disk.bytes(File::Journal);
+    let Some(calls) = calls_of_opening(alloc, journal) else {
+        return Err(Memory);
+    };
+    assert!(rt; calls > 8);
+    for call in 1..=calls {
+        assert!(rt; opening_fails_well(alloc, journal, call, Failure::Once) == Some(true));
+        assert!(rt; opening_fails_well(alloc, journal, call, Failure::Stop) == Some(true));
+    }
+    Ok(())
+}
+
+// Whether a publish whose commit fails at a call leaves the one unit or both, and is committed by the
+// next call, unless the disk has stopped.
+fn commit_fails_well(alloc: Global, call: u64, failure: Failure) -> Option<bool> {
+    let disk = failing(alloc, ONE_UNIT, call, failure)?;
+    let mut store = after(alloc, disk, &[])?;
+    if !matches!(
+        commit(alloc, &mut store, Step::Publish)?,
+        Err(CommitFault::Disk)
+    ) {
+        return Some(false);
+    }
+    if let Failure::Stop = failure {
+        let again = commit(alloc, &mut store, Step::Publish)?;
+        let failed = matches!(again, Err(CommitFault::Disk)) && store.units() == 1;
+        return Some(failed && images_have(alloc, &store.into_disk(), 1, 2)?);
+    }
+    let receipt = commit(alloc, &mut store, Step::Publish)?.ok()?;
+    let copy = first_copy(alloc, &store)?;
+    let same = receipt.unit.value() == 2 && copy == (Fate::Spooled, 0);
+    Some(same && images_have(alloc, &store.into_disk(), 2, 2)?)
+}
+
+#[test]
+fn a_commit_that_fails_at_any_call_leaves_the_units_and_the_next_heals(
+    rt: HostRuntime,
+) -> Result<(), Memory> {
+    let alloc = rt.alloc();
+    let Some(opening) = calls_of_opening(alloc, ONE_UNIT) else {
+        return Err(Memory);
+    };
+    for call in 1..5 {
+        assert!(rt;
+            commit_fails_well(alloc, opening.saturating_add(call), Failure::Once) == Some(true)
+        );
+        assert!(rt;
+            commit_fails_well(alloc, opening.saturating_add(call), Failure::Stop) == Some(true)
+        );
+    }
     Ok(())
 }
