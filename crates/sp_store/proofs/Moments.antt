@@ -1,5 +1,6 @@
 -- What a healing, a writing and an opening may leave, each alone and together.
-use Rattle.std.proofs.Common.{◌≡◌, ◌≤◌, ◌++◌, ◌∷◌, [], List, ℕ, Option, Some, None, inl, inr, refl, sym, ap, subst, length, arith, length-append}
+use Rattle.std.proofs.Common.{◌≡◌, ◌≤◌, ◌++◌, ◌∷◌, [], List, ℕ, length, Option, Some, None}
+use Rattle.std.proofs.Common.{inl, inr, refl, sym, ap, subst, arith, length-append}
 use Rattle.sp_disk.specs.Disk.{Folder}
 use Rattle.sp_disk.specs.Everywhere.{Became, Reached}
 use Rattle.sp_disk.specs.Moments.{LeavesOnly}

@@ -1,5 +1,6 @@
 -- What opening a journal and folding it leave together.
-use Rattle.std.proofs.Common.{◌≡◌, ◌⊎◌, ℕ, List, [], ◌∷◌, ◌++◌, length, Option, None, Result, Err, IsTrue, ⊎_elim, refl, sym, ap, subst, inl, inr, arith, length-append}
+use Rattle.std.proofs.Common.{◌≡◌, ◌⊎◌, ℕ, List, [], ◌∷◌, ◌++◌, length, Option, None, Result, Err, IsTrue}
+use Rattle.std.proofs.Common.{⊎_elim, refl, sym, ap, subst, inl, inr, arith, length-append}
 use Rattle.sp_disk.specs.Disk.{Folder, Telling}
 use Rattle.sp_disk.specs.Everywhere.{Vouches}
 use Rattle.sp_disk.specs.declared.disk.File.TheVariants.{Journal as JournalFile}

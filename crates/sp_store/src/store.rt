@@ -53,7 +53,8 @@ impl<D: Disk> Model for Store<D> {
 
     ghost view = { λ s. record { disk = s.disk; journal = s.journal; core = s.core; max = s.max } };
 
-    ghost invariant = { λ s. IsStore D.tells D.content D.may_leave (record { disk = s.disk; journal = s.journal; core = s.core; max = s.max }) };
+    ghost invariant = { λ s. IsStore D.tells D.content D.may_leave
+        (record { disk = s.disk; journal = s.journal; core = s.core; max = s.max }) };
 }
 
 impl<D: Disk> Store<D> {
