@@ -22,7 +22,7 @@ examples:
 
 # Makes the tapes of their lists of requests.
 tapes:
-	@for list in examples/*.requests; do examples/frame.sh $$list > $${list%.requests}.tape || exit 1; done
+	@for list in examples/*.requests examples/*/*.requests; do examples/frame.sh $$list > $${list%.requests}.tape || exit 1; done
 
 test:
 	@.ci/run

@@ -4,6 +4,7 @@
 #   X.out       standard output              X.status   the exit status; none: 0
 #   X.err       standard error; none: empty  X.args     the program's words; none: run
 #   X.requests  the list that frame.sh makes the tape of; none: the tape is written otherwise
+# The tapes of a folder in examples/ are run one after another in one folder.
 # Usage, at the top of the repository: tools/check_examples.sh PROGRAM. Ends with status 1 where anything differs.
 program=$(realpath "$1") && room=$(mktemp -d) || exit 1
 trap 'rm -rf "$room"' EXIT
@@ -19,11 +20,12 @@ tell() {
     if [ "$1" -eq 0 ]; then echo "ok       $2"; else echo "DIFFERS  $2"; differing=1; fi
 }
 
-# Runs the program with these words on standard input, in a fresh folder; leaves out, err and status.
-run() {
-    folder=$(mktemp -d "$room/run-XXXXXX")
-    (cd "$folder" && "$program" "$@" > "$room/out" 2> "$room/err"; echo $? > "$room/status")
-}
+fresh() { folder=$(mktemp -d "$room/run-XXXXXX"); }
+
+# Runs the program with these words on standard input, in the last fresh folder; leaves out, err and status.
+go_on() { (cd "$folder" && "$program" "$@" > "$room/out" 2> "$room/err"; echo $? > "$room/status"); }
+
+run() { fresh && go_on "$@"; }
 
 # Whether the last run wrote these two files, and ended with the status in the third.
 gave() { same "$1" "$room/out" && same "$2" "$room/err" && same "$3" "$room/status"; }
@@ -35,14 +37,25 @@ is_framed() {
     [ ! -f "$1.requests" ] || { examples/frame.sh "$1.requests" > "$room/framed" && same "$room/framed" "$1.tape"; }
 }
 
-for tape in examples/*.tape; do
-    example=${tape%.tape}
+# Runs the program on a tape in the last fresh folder, and compares.
+try() {
+    example=${1%.tape}
     words=run
     [ -f "$example.args" ] && words=$(cat "$example.args")
-    run $words < "$tape"
+    go_on $words < "$1"
     is_framed "$example" &&
         gave "$example.out" "$(or_else "$example.err" "$room/empty")" "$(or_else "$example.status" "$room/zero")"
-    tell $? "$tape"
+    tell $? "$1"
+}
+
+for tape in examples/*.tape; do
+    fresh && try "$tape"
+done
+for session in examples/*/; do
+    fresh
+    for tape in "$session"*.tape; do
+        try "$tape"
+    done
 done
 
 # Whether the pairs that a document quotes from examples stand in their runs, in this order.
@@ -90,7 +103,8 @@ run run < "$room"
 gave "$room/empty" "$room/read-fault" "$room/four"
 tell $? "standard input that fails"
 if [ -w /dev/full ]; then
-    "$program" run < examples/first.tape > /dev/full 2> "$room/err"
+    fresh
+    (cd "$folder" && "$program" run > /dev/full 2> "$room/err") < examples/first.tape
     [ $? -eq 5 ] && [ "$(cat "$room/err")" = "write fault" ]
     tell $? "standard output that fails"
 fi

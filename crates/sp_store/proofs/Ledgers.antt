@@ -21,7 +21,7 @@ leads_on (first ∷ units) unit L M N leads accepts =
     (leads.0, leads.1, leads_on units unit leads.0 M N leads.2 accepts)
 
 -- the ledger after the first units
-split : (xs ys : List UnitView) (L M : Ledger) → Leads L (xs ++ ys) M → (K : Ledger) × Leads L xs K × Leads K ys M
+pub split : (xs ys : List UnitView) (L M : Ledger) → Leads L (xs ++ ys) M → (K : Ledger) × Leads L xs K × Leads K ys M
 split [] ys L M leads = (L, refl, leads)
 split (x ∷ xs) ys L M leads =
     let more = split xs ys leads.0 M leads.2 in

@@ -1,71 +1,44 @@
 -- How far a run has come, and how it ends from there.
-use Rattle.std.proofs.Common.{◌≡◌, ◌≤◌, ℕ, ◌+◌, ◌-◌, inl, inr, List, [], ◌∷◌, ◌++◌, length, Option, Some, None, refl, sym, ap, ◌∙◌, subst, append_assoc, append-nil, length-append, arith}
+use Rattle.std.proofs.Common.{◌≡◌, ◌≤◌, ℕ, ◌+◌, ◌-◌, Bool, inl, inr, List, [], ◌∷◌, ◌++◌, length, Option, Some, None, refl, sym, ap, ◌∙◌, subst, append_assoc, append-nil, length-append, arith, cond}
 use Rattle.std.specs.Option.{unwrap_or}
-use Rattle.std.specs.Prelude.{flat_map}
+use Rattle.std.specs.Prelude.{count_by, flat_map, sum_by}
 use Rattle.std.specs.Io.KnownBytes.{Consumes, Appends}
 use Rattle.std.proofs.lemmas.Grind.{flat_map-append}
-use Rattle.std.proofs.lemmas.List.Elements.{All-nil}
-use Rattle.sp_core.specs.Stands.{Stands}
-use Rattle.sp_core.specs.State.{CoreState}
-use Rattle.sp_ledger.specs.Asked.{first_ledger}
-use Rattle.sp_ledger.specs.Ledger.{Ledger}
+use Rattle.std.proofs.lemmas.List.Sums.{sum_by-append}
+use Rattle.sp_disk.specs.Disk.{Folder, Telling}
+use Rattle.sp_disk.specs.Everywhere.{Vouches}
+use Rattle.sp_disk.specs.declared.disk.File.TheVariants.{Journal as JournalFile}
 use Rattle.sp_ledger.specs.Sound.{IsLedger}
 use Rattle.sp_tape.specs.declared.entry.Entry.{Entry}
+use Rattle.sp_tape.specs.declared.entry.Kind.TheVariants.{Restart}
 use Rattle.sp_tape.specs.declared.parse.Found.{Found}
 use Rattle.sp_tape.specs.declared.reader.Next.TheVariants as next
 use Rattle.sp_tape.specs.declared.turn.Served.TheVariants as served
 use Rattle.sp_tape.specs.declared.status.Status.{Status}
-use Rattle.sp_tape.specs.declared.status.Status.TheVariants.{Done, Usage, BadTape, ReadFault, WriteFault, Memory}
+use Rattle.sp_tape.specs.declared.status.Status.TheVariants.{Done, BadTape, ReadFault, WriteFault, Memory}
 use Rattle.sp_tape.specs.Acts.{Acts, Told}
 use Rattle.sp_tape.specs.Entry.{entry_text, IsEntry}
-use Rattle.sp_tape.specs.Fates.{AnswerHolds}
 use Rattle.sp_tape.specs.Reading.{Reads, Left, Comes, longest_read}
-use Rattle.sp_tape.specs.Run.{Turn, IsRun, answers_of, ledger_after, ledger_left, line_at, output_of, tape_of}
-use Rattle.sp_tape.specs.Runs.{Runs, Ends, IsBad, Wrote, longest_tape}
-use Rattle.sp_tape.specs.Serves.{Serves}
+use Rattle.sp_tape.specs.Run.{Turn, IsRun, answers_of, line_at, output_of, state_after, state_left, tape_of}
+use Rattle.sp_tape.specs.Runs.{BeginsWithRestart, Ends, Goes, IsBad, RoseBy, Wrote, faults_told, is_fault, longest_tape}
+use Rattle.sp_tape.specs.Serves.{WritesLine, fault_count}
+use Rattle.sp_tape.specs.State.{IsRestart, MayLeave, RunState}
+use Rattle.sp_store.specs.Units.{IsLedgerOf}
 use Rattle.sp_tape.proofs.Fronts.{refused_is_none}
-use Rattle.sp_tape.proofs.Holds.{each_in_order, each_ledger, run_holds}
+use Rattle.sp_tape.proofs.Holds.{run_holds, went}
 use Rattle.sp_tape.proofs.Known.{at_end, reads_nothing, reads_both}
 use Rattle.sp_tape.proofs.Pieces.{writes_nothing, writes_both}
 
-pub record SoFar (left_old left_new written_old written_new : Option (List ℕ)) (waiting : List ℕ) (core : CoreState) (count offset : ℕ) : Type 0 where
-  pub begun : IsLedger first_ledger
-  pub turns : List Turn
-  pub run : IsRun first_ledger turns
-  pub read : Consumes left_old left_new (tape_of turns ++ waiting)
-  pub wrote : Appends written_old written_new (output_of turns)
-  pub stands : Stands core (ledger_after first_ledger turns)
-  pub counted : length turns ≡ count
-  pub placed : length (tape_of turns) ≡ offset
-  pub fits : offset ≤ longest_tape
-  pub waits : length waiting ≤ longest_read
-
--- nothing was answered yet
-pub begins : (left written : Option (List ℕ)) (core : CoreState) → Stands core first_ledger →
-    SoFar left left written written [] core 0 0
-begins left written core s = record {
-  begun = record { sound = s.ledger.sound; unit = s.ledger.unit; unbound = λ above. refl };
-  turns = [];
-  run = tt;
-  read = reads_nothing left;
-  wrote = writes_nothing written;
-  stands = s;
-  counted = refl;
-  placed = refl;
-  fits = omega arith;
-  waits = omega arith;
-}
-
 -- a run goes on by one entry
-IsRun-push : (L : Ledger) (ts : List Turn) (t : Turn) → IsRun L ts → IsEntry t.entry →
-    Acts t.entry (ledger_after L ts) t.told → IsRun L (ts ++ t ∷ [])
-IsRun-push L [] t r e a = ((e, a), tt)
-IsRun-push L (u ∷ us) t r e a = (r.0, IsRun-push (ledger_left L u.told) us t r.1 e a)
+IsRun-push : (trusted : Bool) (most : ℕ) (S : RunState) (ts : List Turn) (t : Turn) → IsRun trusted most S ts → IsEntry t.entry
+    → Acts trusted most t.entry (state_after S ts) t.told → IsRun trusted most S (ts ++ t ∷ [])
+IsRun-push trusted most S [] t r e a = ((e, a), tt)
+IsRun-push trusted most S (u ∷ us) t r e a = (r.0, IsRun-push trusted most (state_left S u.told) us t r.1 e a)
 
-ledger_after-push : (L : Ledger) (ts : List Turn) (t : Turn) →
-    ledger_after L (ts ++ t ∷ []) ≡ ledger_left (ledger_after L ts) t.told
-ledger_after-push L [] t = refl
-ledger_after-push L (u ∷ us) t = ledger_after-push (ledger_left L u.told) us t
+pub state_after-push : (S : RunState) (ts : List Turn) (t : Turn)
+    → state_after S (ts ++ t ∷ []) ≡ state_left (state_after S ts) t.told
+state_after-push S [] t = refl
+state_after-push S (u ∷ us) t = state_after-push (state_left S u.told) us t
 
 flat-push : {X A : Type 0} (f : X → List A) (xs : List X) (x : X) → flat_map f (xs ++ x ∷ []) ≡ flat_map f xs ++ f x
 flat-push f xs x = flat_map-append f xs (x ∷ []) ∙ ap (λ ys. flat_map f xs ++ ys) (append-nil (f x))
@@ -97,163 +70,218 @@ not_empty : (xs ys : List ℕ) → (xs ≡ [] → ⊥) → xs ++ ys ≡ [] → �
 not_empty [] ys n e = n refl
 not_empty (x ∷ xs) ys n e = cc
 
-abbrev turn_of : Entry → List Told → Turn
-turn_of e told = record { entry = e; told = told }
+abbrev pub turn_of : Entry → Told → Turn
+turn_of e t = record { entry = e; told = t ∷ [] }
 
--- a run of these turns that ends so; the tape is what they took, what waits, and what was left before the last read
-ends : (lo lw ln wo wn : Option (List ℕ)) (status : Status) → IsLedger first_ledger → (turns : List Turn) →
-    IsRun first_ledger turns → (more : List ℕ) → Consumes lo lw (tape_of turns ++ more) →
-    length (tape_of turns) ≤ longest_tape →
-    Ends ln (more ++ unwrap_or lw []) (length turns) (length (tape_of turns)) status → Wrote wo wn turns status →
-    Runs lo ln wo wn status
-ends lo lw ln wo wn status begun turns run more read fits ended wrote = record {
-  turns = turns;
-  run = run;
-  sound = each_ledger first_ledger begun turns run;
-  holds = run_holds first_ledger begun turns run;
-  order = each_in_order first_ledger begun turns run;
-  rest = more ++ unwrap_or lw [];
-  read = subst (λ zs. Left lo zs) (append_assoc (tape_of turns) more (unwrap_or lw []))
-      (tape_left lo lw (tape_of turns ++ more) read);
-  fits = fits;
-  ends = ended;
-  wrote = wrote;
+-- how many faults of the disk answers told
+abbrev pub told_faults : List Turn → ℕ
+told_faults ts = count_by (λ (t : Told). is_fault t.answered) (answers_of ts)
+
+pub told_faults-push : (ts : List Turn) (e : Entry) (t : Told)
+    → told_faults (ts ++ turn_of e t ∷ []) ≡ told_faults ts + fault_count t.answered
+told_faults-push ts e t =
+    ap (λ (us : List Told). count_by (λ (u : Told). is_fault u.answered) us)
+    (flat-push (λ (u : Turn). u.told) ts (turn_of e t))
+    ∙ (sum_by-append (λ (u : Told). cond (is_fault u.answered) 1 0) (answers_of ts) (t ∷ [])
+    ∙ ap (λ n. told_faults ts + n) (sum_by-one t))
+  where
+    sum_by-one : (u : Told) → sum_by (λ (v : Told). cond (is_fault v.answered) 1 0) (u ∷ []) ≡ fault_count u.answered
+    sum_by-one u = omega arith
+
+-- how far it has come; the state is that after the turns
+pub record SoFar (trusted : Bool) (most : ℕ) (start : RunState) (left_old left_new written_old written_new : Option (List ℕ))
+    (waiting : List ℕ) (count offset : ℕ) : Type 0 where
+  pub begun : IsLedger start.ledger
+  pub leads : IsLedgerOf start.units start.ledger
+  pub turns : List Turn
+  pub run : IsRun trusted most start turns
+  pub read : Consumes left_old left_new (tape_of turns ++ waiting)
+  pub wrote : Appends written_old written_new (output_of turns)
+  pub counted : length turns ≡ count
+  pub placed : length (tape_of turns) ≡ offset
+  pub fits : offset ≤ longest_tape
+  pub waits : length waiting ≤ longest_read
+
+-- nothing was answered yet
+abbrev pub begins : (trusted : Bool) (most : ℕ) (start : RunState) (left written : Option (List ℕ)) → IsLedger start.ledger
+    → IsLedgerOf start.units start.ledger → SoFar trusted most start left left written written [] 0 0
+begins trusted most start left written begun leads = record {
+  begun = begun;
+  leads = leads;
+  turns = [];
+  run = tt;
+  read = reads_nothing left;
+  wrote = writes_nothing written;
+  counted = refl;
+  placed = refl;
+  fits = omega arith;
+  waits = omega arith;
 }
 
-module _ (lo ll ln wo wl wn : Option (List ℕ)) (waiting left : List ℕ) (core : CoreState) (n at : ℕ) (s : SoFar lo ll wo wl waiting core n at) where
-  fits_whole : length (tape_of s.turns) ≤ longest_tape
-  fits_whole = subst (λ k. k ≤ longest_tape) (sym s.placed) s.fits
+-- the disk at the end of a run
+module _ {D : Type 0} (may_leave : D → Folder → Type 0) (faults : D → ℕ) (telling : Telling) (failed most : ℕ) (start : RunState) (new : D) where
+  -- what it may leave, and how often it failed
+  pub record Disked (turns : List Turn) (status : Status) : Type 0 where
+    pub fault : RoseBy (faults_told turns status) failed (faults new)
+    pub crash : Vouches telling → (image : Folder) → may_leave new image
+        → MayLeave IsRestart (state_after start turns) (image JournalFile)
 
-  pub ends_done : (room : ℕ) → Comes room ll ln waiting left next.End → Runs lo ln wo wl Done
-  ends_done room (reads, end) =
-      ends lo ln ln wo wl Done s.begun s.turns s.run []
-      (reads_more lo ll ln (tape_of s.turns) waiting [] s.read reads) fits_whole (at_end ln end, end) s.wrote
+  abbrev Run : Option (List ℕ) → Option (List ℕ) → Option (List ℕ) → Option (List ℕ) → Status → Type 0
+  Run lo ln wo wn status = Goes may_leave faults telling failed most start new lo ln wo wn status
 
-  pub ends_bad : Comes (longest_tape - at) ll ln waiting left next.Bad → Runs lo ln wo wl (BadTape (n + 1) at)
-  ends_bad (all, reads, refused, no_further) =
-      ends lo ln ln wo wl (BadTape (n + 1) at) s.begun s.turns s.run all
-      (reads_more lo ll ln (tape_of s.turns) waiting all s.read reads) fits_whole (
-        subst (λ k. IsBad (longest_tape - k) ln (all ++ unwrap_or ln [])) (sym s.placed) (record {
-          some = not_empty all (unwrap_or ln []) refused.0;
-          none = refused_is_none (longest_tape - at) ln all refused;
-          read = all;
-          split = refl;
-          refused = refused;
-          no_further = no_further s.waits;
-        }),
-        ap (λ m. m + 1) (sym s.counted),
-        sym s.placed,
+  -- a run of these turns that ends so; the tape is what they took, what waits, and what was left before the last read
+  ends : (lo lw ln wo wn : Option (List ℕ)) (status : Status) → IsLedger start.ledger → IsLedgerOf start.units start.ledger
+      → (turns : List Turn) → IsRun telling.content most start turns → (more : List ℕ)
+      → Consumes lo lw (tape_of turns ++ more) → length (tape_of turns) ≤ longest_tape
+      → Ends telling.content ln (more ++ unwrap_or lw []) (length turns) (length (tape_of turns)) status
+      → Wrote wo wn turns status → Disked turns status → (g : Run lo ln wo wn status) × (g.turns ≡ turns)
+  ends lo lw ln wo wn status begun leads turns run more read fits ended wrote disk =
+      let w = went telling.content most start begun leads turns run in (
+        record {
+          turns = turns;
+          run = run;
+          sound = w.each;
+          holds = run_holds telling.content start turns w;
+          order = w.order;
+          rest = more ++ unwrap_or lw [];
+          read = subst (λ zs. Left lo zs) (append_assoc (tape_of turns) more (unwrap_or lw []))
+              (tape_left lo lw (tape_of turns ++ more) read);
+          fits = fits;
+          ends = ended;
+          wrote = wrote;
+          fault = disk.fault;
+          crash = disk.crash;
+        },
+        refl,
       )
-      s.wrote
 
-  pub ends_read_fault : Runs lo ln wo wl ReadFault
-  ends_read_fault = ends lo ll ln wo wl ReadFault s.begun s.turns s.run waiting s.read fits_whole tt s.wrote
+  module _ (lo ll ln wo wl wn : Option (List ℕ)) (waiting left : List ℕ) (n at : ℕ) (s : SoFar telling.content most start lo ll wo wl waiting n at) where
+    fits_whole : length (tape_of s.turns) ≤ longest_tape
+    fits_whole = subst (λ k. k ≤ longest_tape) (sym s.placed) s.fits
 
-  pub ends_memory : Runs lo ln wo wl Memory
-  ends_memory = ends lo ll ln wo wl Memory s.begun s.turns s.run waiting s.read fits_whole tt (inl s.wrote)
+    pub ends_done : (room : ℕ) → Comes room ll ln waiting left next.End → Disked s.turns Done
+        → (g : Run lo ln wo wl Done) × (g.turns ≡ s.turns)
+    ends_done room (reads, end) disk =
+        ends lo ln ln wo wl Done s.begun s.leads s.turns s.run []
+        (reads_more lo ll ln (tape_of s.turns) waiting [] s.read reads) fits_whole (at_end ln end, end) s.wrote disk
 
-  module _ (found : Found) (came : Comes (longest_tape - at) ll ln waiting left (next.Found found)) (told : List Told) (acts : Acts found.entry (ledger_after first_ledger s.turns) told) where
-    abbrev t : Turn
-    t = turn_of found.entry told
+    pub ends_bad : Comes (longest_tape - at) ll ln waiting left next.Bad → Disked s.turns (BadTape (n + 1) at)
+        → (g : Run lo ln wo wl (BadTape (n + 1) at)) × (g.turns ≡ s.turns)
+    ends_bad (all, reads, refused, no_further) disk =
+        ends lo ln ln wo wl (BadTape (n + 1) at) s.begun s.leads s.turns s.run all
+        (reads_more lo ll ln (tape_of s.turns) waiting all s.read reads) fits_whole (
+          subst (λ k. IsBad (longest_tape - k) ln (all ++ unwrap_or ln [])) (sym s.placed) (record {
+            some = not_empty all (unwrap_or ln []) refused.0;
+            none = refused_is_none (longest_tape - at) ln all refused;
+            read = all;
+            split = refl;
+            refused = refused;
+            no_further = no_further s.waits;
+          }),
+          ap (λ m. m + 1) (sym s.counted),
+          sym s.placed,
+        )
+        s.wrote disk
 
-    abbrev turns : List Turn
-    turns = s.turns ++ t ∷ []
+    pub ends_read_fault : Disked s.turns ReadFault → (g : Run lo ln wo wl ReadFault) × (g.turns ≡ s.turns)
+    ends_read_fault disk = ends lo ll ln wo wl ReadFault s.begun s.leads s.turns s.run waiting s.read fits_whole tt s.wrote disk
 
-    run : IsRun first_ledger turns
-    run = IsRun-push first_ledger s.turns t s.run came.0 acts
+    pub ends_memory : Disked s.turns Memory → (g : Run lo ln wo wl Memory) × (g.turns ≡ s.turns)
+    ends_memory disk = ends lo ll ln wo wl Memory s.begun s.leads s.turns s.run waiting s.read fits_whole tt (inl s.wrote) disk
 
-    -- the tape up to the end of the entry that came
-    read : Consumes lo ln (tape_of turns ++ left)
-    read =
-        subst (λ zs. Consumes lo ln zs)
-        (sym (append_assoc (tape_of s.turns) (entry_text found.entry) left)
-        ∙ ap (λ zs. zs ++ left) (sym (tape_of-push s.turns t)))
-        (reads_more lo ll ln (tape_of s.turns) waiting (entry_text found.entry ++ left) s.read came.3)
+    -- an entry came
+    module _ (found : Found) (came : Comes (longest_tape - at) ll ln waiting left (next.Found found)) where
+      abbrev rest : List ℕ
+      rest = entry_text found.entry ++ left
 
-    placed : length (tape_of turns) ≡ at + found.used
-    placed =
-        ap (λ (zs : List ℕ). length zs) (tape_of-push s.turns t)
-        ∙ (length-append (tape_of s.turns) (entry_text found.entry)
-        ∙ (ap (λ k. k + length (entry_text found.entry)) s.placed ∙ ap (λ k. at + k) came.1))
+      read_rest : Consumes lo ln (tape_of s.turns ++ rest)
+      read_rest = reads_more lo ll ln (tape_of s.turns) waiting rest s.read came.3
 
-    fits : at + found.used ≤ longest_tape
-    fits = let within = came.2 in let f = s.fits in omega arith
+      -- it is a restart, and the journal wasn't opened
+      pub ends_stopped : (status : Status) → found.entry.kind ≡ Restart
+          → (BeginsWithRestart (rest ++ unwrap_or ln []) →
+          Ends telling.content ln (rest ++ unwrap_or ln []) (length s.turns) (length (tape_of s.turns)) status)
+          → Wrote wo wl s.turns status → Disked s.turns status → (g : Run lo ln wo wl status) × (g.turns ≡ s.turns)
+      ends_stopped status kind ended wrote disk =
+          ends lo ln ln wo wl status s.begun s.leads s.turns s.run rest read_rest fits_whole (ended (record {
+            entry = found.entry;
+            valid = came.0;
+            kind = kind;
+            behind = left ++ unwrap_or ln [];
+            bytes = append_assoc (entry_text found.entry) left (unwrap_or ln []);
+          })) wrote disk
 
-    fits_too : length (tape_of turns) ≤ longest_tape
-    fits_too = subst (λ k. k ≤ longest_tape) (sym placed) fits
+      -- it was carried out
+      module _ (t : Told) (acts : Acts telling.content most found.entry (state_after start s.turns) (t ∷ [])) where
+        abbrev turn : Turn
+        turn = turn_of found.entry t
 
-  pub goes_on : (found : Found) (after : CoreState) → Comes (longest_tape - at) ll ln waiting left (next.Found found) →
-      Serves found.entry (ledger_after first_ledger s.turns) after wl wn served.Done →
-      SoFar lo ln wo wn left after (n + 1) (at + found.used)
-  goes_on found after came (told, acts, stands, wrote) =
-      let t = turn_of found.entry told in
-      record {
-        begun = s.begun;
-        turns = s.turns ++ t ∷ [];
-        run = run found came told acts;
-        read = read found came told acts;
-        wrote = subst (λ zs. Appends wo wn zs) (sym (output_of-push s.turns t))
-            (writes_both wo wl wn (output_of s.turns) (flat_map line_at told) s.wrote wrote);
-        stands = subst (Stands after) (sym (ledger_after-push first_ledger s.turns t)) stands;
-        counted = length-append s.turns (t ∷ []) ∙ ap (λ m. m + 1) s.counted;
-        placed = placed found came told acts;
-        fits = fits found came told acts;
-        waits = came.4 s.waits;
-      }
+        abbrev pub turns : List Turn
+        turns = s.turns ++ turn ∷ []
 
-  pub ends_write_fault : (found : Found) (after : CoreState) →
-      Comes (longest_tape - at) ll ln waiting left (next.Found found) →
-      Serves found.entry (ledger_after first_ledger s.turns) after wl wn served.Fault → Runs lo ln wo wn WriteFault
-  ends_write_fault found after came (told, acts, stands, (front, back, text, wrote)) =
-      let t = turn_of found.entry told in
-      ends lo ln ln wo wn WriteFault s.begun (s.turns ++ t ∷ []) (run found came told acts) left
-      (read found came told acts) (fits_too found came told acts) tt (record {
-        before = s.turns;
-        last = t;
-        split = refl;
-        front = front;
-        rest = back;
-        lines = output_of-one t ∙ text;
-        wrote = writes_both wo wl wn (output_of s.turns) front s.wrote wrote;
-      })
+        run : IsRun telling.content most start turns
+        run = IsRun-push telling.content most start s.turns turn s.run came.0 acts
 
-  -- the entry was carried out, and there was no memory for its line
-  pub ends_unwritten : (found : Found) (after : CoreState) →
-      Comes (longest_tape - at) ll ln waiting left (next.Found found) →
-      Serves found.entry (ledger_after first_ledger s.turns) after wl wn served.Memory → Runs lo ln wo wn Memory
-  ends_unwritten found after came (told, acts, stands, same) =
-      let t = turn_of found.entry told in
-      ends lo ln ln wo wn Memory s.begun (s.turns ++ t ∷ []) (run found came told acts) left
-      (read found came told acts) (fits_too found came told acts) tt (inr (record {
-        before = s.turns;
-        last = t;
-        split = refl;
-        wrote = subst (λ (w : Option (List ℕ)). Appends wo w (output_of s.turns)) (sym same) s.wrote;
-      }))
+        -- the tape up to the end of the entry that came
+        read : Consumes lo ln (tape_of turns ++ left)
+        read =
+            subst (λ zs. Consumes lo ln zs)
+            (sym (append_assoc (tape_of s.turns) (entry_text found.entry) left)
+            ∙ ap (λ zs. zs ++ left) (sym (tape_of-push s.turns turn))) read_rest
 
--- a run that didn't begin
-module _ (left written : Option (List ℕ)) where
-  kept : (l : Option (List ℕ)) → Left l ([] ++ unwrap_or l [])
-  kept None = tt
-  kept (Some bytes) = refl
+        placed : length (tape_of turns) ≡ at + found.used
+        placed =
+            ap (λ (zs : List ℕ). length zs) (tape_of-push s.turns turn)
+            ∙ (length-append (tape_of s.turns) (entry_text found.entry)
+            ∙ (ap (λ k. k + length (entry_text found.entry)) s.placed ∙ ap (λ k. at + k) came.1))
 
-  no_turn : (status : Status) → Ends left (unwrap_or left []) 0 0 status → Wrote written written [] status →
-      Runs left left written written status
-  no_turn status ends wrote = record {
-    turns = [];
-    run = tt;
-    sound = All-nil (λ (t : Told). IsLedger t.after);
-    holds = All-nil (λ (t : Told). AnswerHolds first_ledger t.answered);
-    order = tt;
-    rest = unwrap_or left [];
-    read = kept left;
-    fits = omega arith;
-    ends = ends;
-    wrote = wrote;
-  }
+        fits : at + found.used ≤ longest_tape
+        fits = let within = came.2 in let f = s.fits in omega arith
 
-  pub ends_usage : Runs left left written written Usage
-  ends_usage = no_turn Usage (refl, kept left) (writes_nothing written)
+        fits_too : length (tape_of turns) ≤ longest_tape
+        fits_too = subst (λ k. k ≤ longest_tape) (sym placed) fits
 
-  pub ends_at_once : Runs left left written written Memory
-  ends_at_once = no_turn Memory tt (inl (writes_nothing written))
+        line : (zs : List ℕ) → line_at t ≡ zs → output_of turns ≡ output_of s.turns ++ zs
+        line zs e = output_of-push s.turns turn ∙ ap (λ ys. output_of s.turns ++ ys) (append-nil (line_at t) ∙ e)
+
+        pub goes_on : Appends wl wn (line_at t) → SoFar telling.content most start lo ln wo wn left (n + 1) (at + found.used)
+        goes_on wrote = record {
+          begun = s.begun;
+          leads = s.leads;
+          turns = turns;
+          run = run;
+          read = read;
+          wrote = subst (λ zs. Appends wo wn zs) (sym (line (line_at t) refl))
+              (writes_both wo wl wn (output_of s.turns) (line_at t) s.wrote wrote);
+          counted = length-append s.turns (turn ∷ []) ∙ ap (λ m. m + 1) s.counted;
+          placed = placed;
+          fits = fits;
+          waits = came.4 s.waits;
+        }
+
+        pub goes_on_turns : (wrote : Appends wl wn (line_at t)) → (goes_on wrote).turns ≡ turns
+        unfolding goes_on
+        goes_on_turns wrote = refl
+
+        pub ends_write_fault : WritesLine wl wn (line_at t) served.Fault → Disked turns WriteFault
+            → (g : Run lo ln wo wn WriteFault) × (g.turns ≡ turns)
+        ends_write_fault (front, back, text, wrote) disk =
+            ends lo ln ln wo wn WriteFault s.begun s.leads turns run left read fits_too tt (record {
+              before = s.turns;
+              last = turn;
+              split = refl;
+              front = front;
+              rest = back;
+              lines = output_of-one turn ∙ (append-nil (line_at t) ∙ text);
+              wrote = writes_both wo wl wn (output_of s.turns) front s.wrote wrote;
+            }) disk
+
+        -- the entry was carried out, and there was no memory for its line
+        pub ends_unwritten : wn ≡ wl → Disked turns Memory → (g : Run lo ln wo wn Memory) × (g.turns ≡ turns)
+        ends_unwritten same disk =
+            ends lo ln ln wo wn Memory s.begun s.leads turns run left read fits_too tt (inr (record {
+              before = s.turns;
+              last = turn;
+              split = refl;
+              wrote = subst (λ (w : Option (List ℕ)). Appends wo w (output_of s.turns)) (sym same) s.wrote;
+            })) disk

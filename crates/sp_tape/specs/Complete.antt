@@ -1,5 +1,5 @@
 -- Tapes of whole entries.
-use Rattle.std.specs.Prelude.{◌≡◌, ◌≤◌, ℕ, List, [], ◌∷◌, length, flat_map, All, Option, Some}
+use Rattle.std.specs.Prelude.{◌≡◌, ◌≤◌, ℕ, List, length, flat_map, All, Option, Some}
 use Rattle.sp_tape.specs.declared.entry.Entry.{Entry}
 use Rattle.sp_tape.specs.Entry.{entry_text, IsEntry}
 use Rattle.sp_tape.specs.Runs.{longest_tape}

@@ -1,4 +1,5 @@
 pub mod Acts
+pub mod Check
 pub mod Complete
 pub mod Cut
 pub mod Entry
@@ -8,9 +9,12 @@ pub mod Head
 pub mod Numeral
 pub mod Order
 pub mod Parse
+pub mod Places
 pub mod Reading
 pub mod Run
 pub mod Runs
 pub mod Serves
+pub mod State
 pub mod Status
 pub mod Unfinished
+pub mod Words

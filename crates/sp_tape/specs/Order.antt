@@ -6,7 +6,8 @@ use Rattle.sp_ledger.specs.Ledger.{Ledger}
 use Rattle.sp_ledger.specs.Order.{HandsOutInOrder}
 use Rattle.sp_ledger.specs.Step.{begun}
 use Rattle.sp_tape.specs.Acts.{Told}
-use Rattle.sp_tape.specs.Run.{Turn, ledger_left}
+use Rattle.sp_tape.specs.Run.{Turn, state_left}
+use Rattle.sp_tape.specs.State.{RunState}
 
 -- where an answer tells that copies are handed out, no copy of a partition is while the flow can reach an earlier one
 -- that isn't
@@ -17,12 +18,12 @@ KeepsOrder L Memory = ⊤
 KeepsOrder L Disk = ⊤
 KeepsOrder L (Full len need most) = ⊤
 
--- each of the answers at a moment, on the ledger that the one before left
-abbrev pub AnswersInOrder : ℕ → Ledger → List Told → Type 0
-AnswersInOrder moment L [] = ⊤
-AnswersInOrder moment L (t ∷ told) = KeepsOrder (begun moment L) t.answered × AnswersInOrder moment t.after told
+-- each of the answers at a moment, in the state that the one before left
+abbrev pub AnswersInOrder : ℕ → RunState → List Told → Type 0
+AnswersInOrder moment S [] = ⊤
+AnswersInOrder moment S (t ∷ told) = KeepsOrder (begun moment S.ledger) t.answered × AnswersInOrder moment t.after told
 
 -- and so each turn
-abbrev pub IsInOrder : Ledger → List Turn → Type 0
-IsInOrder L [] = ⊤
-IsInOrder L (t ∷ ts) = AnswersInOrder t.entry.moment L t.told × IsInOrder (ledger_left L t.told) ts
+abbrev pub IsInOrder : RunState → List Turn → Type 0
+IsInOrder S [] = ⊤
+IsInOrder S (t ∷ ts) = AnswersInOrder t.entry.moment S t.told × IsInOrder (state_left S t.told) ts

@@ -2,6 +2,9 @@
 #![tactic(auto)]
 
 mod body;
+pub mod check;
+#[cfg(test)]
+mod disk_tests;
 #[cfg(test)]
 mod ending_tests;
 pub mod entry;
@@ -12,6 +15,7 @@ pub mod laws;
 mod numeral;
 pub mod parse;
 pub mod reader;
+pub mod reopen;
 pub mod run_tape;
 #[cfg(test)]
 mod selector_tests;
@@ -23,3 +27,4 @@ mod tests;
 #[cfg(test)]
 mod topic_tests;
 pub mod turn;
+pub mod words;

@@ -1,5 +1,6 @@
-ghost use Rattle.std.specs.Prelude.{◌≡◌, IfOk, string_bytes, option_map};
+ghost use Rattle.std.specs.Prelude.{◌≡◌, IfOk, Some, string_bytes, option_map};
 
+use sp_journal::journal::OpenError;
 use std::alloc::{AllocError, Global};
 
 /// How a run ended.
@@ -17,12 +18,31 @@ pub enum Status {
     ReadFault,
     /// The sink failed. What it took is a front of the output.
     WriteFault,
+    /// The disk failed while the journal was opened or looked at, at a restart too.
+    DiskFault,
+    /// A file's bytes are damaged from an offset on, or hold there a unit whose event is refused, or changes
+    /// nothing, on the ledger of the units before it. The journal is file 0.
+    Damaged { file: u8, at: u64 },
     /// There was no memory.
     Memory,
+    /// The journal is of another version.
+    OtherVersion { found: u32 },
 }
 
 impl Status {
-    ghost use Rattle.sp_tape.specs.Status.{status_number, status_line};
+    ghost use Rattle.sp_tape.specs.Status.{status_of, status_number, status_line};
+
+    /// The status of a journal that wasn't opened.
+    pub fn of_open(error: OpenError) -> Status
+        ensures { result ≡ status_of error }
+    {
+        match error {
+            OpenError::DiskFault => Status::DiskFault,
+            OpenError::Damaged { file, at } => Status::Damaged { file, at },
+            OpenError::OtherVersion { found } => Status::OtherVersion { found },
+            OpenError::Memory => Status::Memory,
+        }
+    }
 
     /// The exit status of the program.
     pub fn number(self) -> u8
@@ -34,7 +54,10 @@ impl Status {
             Status::BadTape { .. } => 3,
             Status::ReadFault => 4,
             Status::WriteFault => 5,
+            Status::DiskFault => 6,
+            Status::Damaged { .. } => 7,
             Status::Memory => 8,
+            Status::OtherVersion { .. } => 9,
         }
     }
 
@@ -44,13 +67,29 @@ impl Status {
     {
         match self {
             Status::Done => Ok(None),
-            Status::Usage => Ok(Some(String::from_str(alloc, "usage: spoolrun run")?)),
+            Status::Usage => text(
+                alloc,
+                "usage: spoolrun run [--max n] | check | drill seed n",
+            ),
             Status::BadTape { entry, offset } => Ok(Some(format!(in alloc;
                 "bad tape: entry {entry} at byte {offset}"
             )?)),
-            Status::ReadFault => Ok(Some(String::from_str(alloc, "read fault")?)),
-            Status::WriteFault => Ok(Some(String::from_str(alloc, "write fault")?)),
-            Status::Memory => Ok(Some(String::from_str(alloc, "want of memory")?)),
+            Status::ReadFault => text(alloc, "read fault"),
+            Status::WriteFault => text(alloc, "write fault"),
+            Status::DiskFault => text(alloc, "disk fault"),
+            Status::Damaged { file, at } => Ok(Some(format!(in alloc;
+                "journal damaged: file {file} at byte {at}"
+            )?)),
+            Status::Memory => text(alloc, "want of memory"),
+            Status::OtherVersion { found } => Ok(Some(format!(in alloc;
+                "journal version {found} is not known"
+            )?)),
         }
     }
+}
+
+fn text(alloc: Global, line: &str) -> Result<Option<String>, AllocError>
+    ensures { IfOk result (λ told. option_map string_bytes told ≡ Some line.now) }
+{
+    Ok(Some(String::from_str(alloc, line)?))
 }

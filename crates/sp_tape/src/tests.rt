@@ -1,11 +1,13 @@
-use crate::run_tape::run;
+use crate::run_tape::{Ran, run};
 use crate::status::Status;
+use sp_disk::disk::Disk;
+use sp_disk::memory::MemoryDisk;
 use sp_stream::memory::{MemorySink, MemorySource};
 use std::alloc::{AllocError, Global};
 use std::test::Fail;
 
 // A queue is provisioned, a message is published, and both are counted.
-const SMALLEST: [(&str, &str); 3] = [
+pub const SMALLEST: [(&str, &str); 3] = [
     (
         r#"{"op":"provision","endpoint":"q1"}"#,
         r#"{"endpoint":"q1","number":1,"ok":"provision","unit":1}"#,
@@ -30,14 +32,21 @@ pub struct Exchange {
     pub lines: Vec<u8>,
 }
 
-// The tape of requests of ann at moment 0, with the length of each counted, and their replies.
+// The entry of a request of ann at moment 0, with its length counted; an empty one is a restart.
+fn entry(alloc: Global, request: &str) -> Result<String, AllocError> {
+    if request.is_empty() {
+        return String::from_str(alloc, "@ann restart 0 0\n\n");
+    }
+    let len = request.len();
+    format!(in alloc; "@ann flow 0 {len}\n{request}\n")
+}
+
+// The tape of requests, and their replies.
 pub fn exchanged(alloc: Global, turns: &[(&str, &str)]) -> Result<Exchange, AllocError> {
     let mut tape = Vec::new(alloc);
     let mut lines = Vec::new(alloc);
     for (request, reply) in turns {
-        let len = request.len();
-        let entry = format!(in alloc; "@ann flow 0 {len}\n{request}\n")?;
-        tape.extend_from_slice(entry.as_bytes())?;
+        tape.extend_from_slice(entry(alloc, request)?.as_bytes())?;
         lines.extend_from_slice(reply.as_bytes())?;
         lines.push(b'\n')?;
     }
@@ -57,45 +66,83 @@ pub struct Ended {
     pub output: Vec<u8>,
 }
 
+// The words of a line.
+fn words_of(alloc: Global, line: &str) -> Result<Vec<String>, AllocError> {
+    let mut words = Vec::new(alloc);
+    for word in line.split(' ') {
+        words.push(String::from_str(alloc, word)?)?;
+    }
+    Ok(words)
+}
+
+// What a run over a disk gave.
+#[derive(Drop)]
+pub struct Over<D> {
+    pub status: Status,
+    pub output: Vec<u8>,
+    pub disk: D,
+}
+
+// Runs words over a tape and a disk.
+pub fn ran_over<D: Disk + Drop>(
+    alloc: Global,
+    line: &str,
+    tape: &[u8],
+    disk: D,
+) -> Result<Over<D>, AllocError> {
+    let words = words_of(alloc, line)?;
+    let bytes = Vec::from_slice(alloc, tape)?;
+    let mut source = MemorySource::new(bytes, 4096, Vec::new(alloc));
+    let mut sink = MemorySink::new(alloc, 4096, Vec::new(alloc));
+    let Ran { status, disk } = run(words.as_slice(), &mut source, &mut sink, disk, alloc);
+    let output = Vec::from_slice(alloc, sink.as_slice())?;
+    Ok(Over {
+        status,
+        output,
+        disk,
+    })
+}
+
 // Runs words over a tape that comes in pieces, into a sink that takes pieces.
 pub fn ran(
     alloc: Global,
-    word: &str,
+    line: &str,
     tape: &[u8],
     piece: usize,
     failing_reads: &[u64],
     failing_writes: &[u64],
 ) -> Result<Ended, AllocError> {
-    let mut words = Vec::new(alloc);
-    words.push(String::from_str(alloc, word)?)?;
+    let words = words_of(alloc, line)?;
     let bytes = Vec::from_slice(alloc, tape)?;
     let mut source = MemorySource::new(bytes, piece, Vec::from_slice(alloc, failing_reads)?);
     let mut sink = MemorySink::new(alloc, piece, Vec::from_slice(alloc, failing_writes)?);
-    let status = run(words.as_slice(), &mut source, &mut sink, alloc);
+    let disk = MemoryDisk::new(alloc);
+    let status = run(words.as_slice(), &mut source, &mut sink, disk, alloc).status;
     let output = Vec::from_slice(alloc, sink.as_slice())?;
     Ok(Ended { status, output })
 }
 
 #[test]
-fn only_run_is_a_form(rt: HostRuntime) -> Result<(), Fail> {
+fn words_that_are_no_form_are_told(rt: HostRuntime) -> Result<(), Fail> {
     let alloc = rt.alloc();
-    for (word, status) in [
+    for (words, status) in [
         ("run", Status::Done),
+        ("check", Status::Done),
+        ("run --max 14", Status::Done),
+        ("run --max 4294967296", Status::Done),
         ("start", Status::Usage),
-        ("run --max 5", Status::Usage),
         ("", Status::Usage),
+        ("run run", Status::Usage),
+        ("run --max", Status::Usage),
+        ("run --max 13", Status::Usage),
+        ("run --max 4294967297", Status::Usage),
+        ("run --max 014", Status::Usage),
+        ("run --min 14", Status::Usage),
+        ("check --max 14", Status::Usage),
+        ("run --max 14 15", Status::Usage),
     ] {
-        assert_eq!(rt; ran(alloc, word, b"", 9, &[], &[])?.status, status);
+        assert_eq!(rt; ran(alloc, words, b"", 9, &[], &[])?.status, status);
     }
-    let mut two = Vec::new(alloc);
-    two.push(String::from_str(alloc, "run")?)?;
-    two.push(String::from_str(alloc, "run")?)?;
-    let mut source = MemorySource::new(Vec::new(alloc), 1, Vec::new(alloc));
-    let mut sink = MemorySink::new(alloc, 1, Vec::new(alloc));
-    assert_eq!(rt;
-        run(two.as_slice(), &mut source, &mut sink, alloc),
-        Status::Usage
-    );
     Ok(())
 }
 
@@ -175,11 +222,7 @@ fn what_is_no_entry_is_told_at_once(rt: HostRuntime) -> Result<(), Fail> {
 #[test]
 fn the_other_kinds_are_bad_requests(rt: HostRuntime) -> Result<(), Fail> {
     let alloc = rt.alloc();
-    for tape in [
-        &b"@ann http 0 0\n\n"[..],
-        &b"@ann rdp 0 0\n\n"[..],
-        &b"@ann restart 0 0\n\n"[..],
-    ] {
+    for tape in [&b"@ann http 0 0\n\n"[..], &b"@ann rdp 0 0\n\n"[..]] {
         let ran = ran(alloc, "run", tape, 4096, &[], &[])?;
         assert_eq!(rt; ran.status, Status::Done);
         let line = "{\"refused\":{\"at\":1,\"no\":1,\"rule\":\"BadRequest\"},\"unit\":0}\n";

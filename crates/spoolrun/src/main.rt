@@ -1,6 +1,8 @@
-//! Runs a tape of requests from standard input, and writes the answers to standard output.
+//! Runs a tape of requests from standard input over the journal of the current folder, and writes the answers
+//! to standard output; or looks at the journal.
 #![tactic(auto)]
 
+use sp_disk::folder::FolderDisk;
 use sp_stream::real::{ReaderSource, WriterSink};
 use sp_tape::run_tape::run;
 use sp_tape::status::Status;
@@ -14,9 +16,10 @@ fn main(rt: HostRuntime) -> io::Result<ExitCode> {
     }
     let mut source = ReaderSource::new(rt.reader());
     let mut sink = WriterSink::new(io::writer(&rt));
-    let status = run(words.as_slice(), &mut source, &mut sink, rt.alloc());
-    tell(&rt, status)?;
-    Ok(ExitCode::from(status.number()))
+    let disk = FolderDisk::new(&rt);
+    let ran = run(words.as_slice(), &mut source, &mut sink, disk, rt.alloc());
+    tell(&rt, ran.status)?;
+    Ok(ExitCode::from(ran.status.number()))
 }
 
 // Prints the status's line on standard error.
