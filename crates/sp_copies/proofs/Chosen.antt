@@ -1,11 +1,11 @@
 -- Copies that are due, held or free are among those that were made, and each is such a copy and stands once.
-use Rattle.std.proofs.Common.{◌≡◌, ◌<◌, ◌==◌, ℕ, zero, suc, Bool, true, false, not, ◌&&◌, ◌||◌, cond, Some, List, [], ◌∷◌, take, filter, fold, get_or, length, refl, ap, ◌∙◌, arith, All, AllPairs}
+use Rattle.std.proofs.Common.{◌≡◌, ◌<◌, ◌==◌, ℕ, zero, suc, Bool, true, false, not, ◌&&◌, ◌||◌, cond, Some, List, [], ◌∷◌, take, filter, fold, get_or, refl, ap, ◌∙◌, arith, All, AllPairs}
 use Rattle.std.proofs.lemmas.Bool.{and_from, and_parts, eq-eqb, eqb-true, or_right}
 use Rattle.std.proofs.lemmas.List.Elements.{All-cons, All-filter, All-head, All-nil, All-tail, All-take, filter_passes}
 use Rattle.std.proofs.lemmas.List.Kept.{AllPairs-cons, AllPairs-filter}
 use Rattle.sp_copies.specs.declared.made.MadeCopy.{MadeCopy}
 use Rattle.sp_copies.specs.Due.{by_deadline, due_copies, is_due, is_earlier, placed}
-use Rattle.sp_copies.specs.History.{History, all_held, copy_of, free_copies, has_come, held_copies, is_closed, is_free, is_held, is_held_by, is_made, is_open_in, is_spooled, open_copies}
+use Rattle.sp_copies.specs.History.{History, all_held, copy_of, free_copies, has_come, held_copies, is_closed, is_free, is_held, is_held_by, is_made, is_open_in, open_copies}
 use Rattle.sp_copies.specs.Sound.{IsSoundHistory}
 use Rattle.sp_copies.proofs.Marks.{eqb-turned}
 

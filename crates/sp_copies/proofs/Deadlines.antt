@@ -1,12 +1,15 @@
 -- A copy in its place among those that are due: where that is, and what the first of them are.
-use Rattle.std.proofs.Common.{◌≡◌, ◌≤◌, ◌<◌, ℕ, ◌+◌, zero, suc, Bool, true, false, not, cond, List, [], ◌∷◌, ◌++◌, take, drop, length, filter, fold, get_or, slice_get, position, Option, Some, None, refl, ap, sym, ◌∙◌, arith}
-use Rattle.std.specs.List.{insert, position_from, position_or_len, prefix_len}
+use Rattle.std.proofs.Common.{◌≡◌, ◌<◌, ℕ, ◌+◌, zero, suc, Bool, true, false, not, cond, List, [], ◌∷◌, ◌++◌, take, drop, length, filter, fold, map, get_or, slice_get, position, Option, Some, None, refl, ap, sym, ◌∙◌, arith}
+use Rattle.std.specs.List.{insert, position_from, position_or_len}
 use Rattle.std.proofs.lemmas.Iterator.Adapters.{position_from-zero}
 use Rattle.std.proofs.lemmas.List.Elements.{filter_more}
-use Rattle.std.proofs.lemmas.List.Sums.{fold-append, prefix_len-le-length}
+use Rattle.std.proofs.lemmas.List.Sums.{fold-append}
+use Rattle.std.proofs.lemmas.List.{map-append}
 use Rattle.sp_copies.specs.declared.made.MadeCopy.{MadeCopy}
+use Rattle.sp_copies.specs.declared.made.Row.{Row}
 use Rattle.sp_copies.specs.Due.{by_deadline, is_earlier, placed}
 use Rattle.sp_copies.specs.Inside.{earlier}
+use Rattle.sp_copies.specs.Rows.{made_in}
 
 -- where no element passes, the first place that passes is the end
 none-from : {X : Type 0} (p : X → Bool) (xs : List X) (i : ℕ) → position_from p i xs ≡ None → length xs ≡
@@ -62,45 +65,43 @@ first-placed c (d ∷ ds) = one (is_earlier c d)
     one true = refl
     one false = refl
 
-abbrev pub ordered_to : (MadeCopy → Bool) → List MadeCopy → ℕ → List MadeCopy
-ordered_to p cs i = by_deadline (filter p (take i cs))
+abbrev pub ordered_to : (Row → Bool) → List Row → ℕ → List MadeCopy
+ordered_to p rows i = by_deadline (map made_in (filter p (take i rows)))
 
--- one more copy is looked at
-pub ordered-more : (p : MadeCopy → Bool) (cs : List MadeCopy) (i : ℕ) (d : MadeCopy) → i < length cs → ordered_to p cs
-    (i + 1) ≡ cond (p (get_or cs i d)) (placed (get_or cs i d) (ordered_to p cs i)) (ordered_to p cs i)
-ordered-more p cs i d lt =
-    ap by_deadline (filter_more p cs i d lt)
-    ∙ fold-append (λ before c. placed c before) [] (filter p (take i cs)) (cond (p (get_or cs i d))
-    (get_or cs i d ∷ []) [])
-    ∙ one (p (get_or cs i d))
+-- one more row is looked at
+pub ordered-more : (p : Row → Bool) (rows : List Row) (i : ℕ) (d : Row) → i < length rows → ordered_to p rows
+    (i + 1) ≡ cond (p (get_or rows i d)) (placed (made_in (get_or rows i d)) (ordered_to p rows i)) (ordered_to p rows i)
+ordered-more p rows i d lt =
+    ap (λ (rs : List Row). by_deadline (map made_in rs)) (filter_more p rows i d lt)
+    ∙ (ap by_deadline (map-append made_in (filter p (take i rows)) (cond (p (get_or rows i d)) (get_or rows i d ∷ []) []))
+    ∙ (fold-append (λ before c. placed c before) [] (map made_in (filter p (take i rows)))
+    (map made_in (cond (p (get_or rows i d)) (get_or rows i d ∷ []) []))
+    ∙ one (p (get_or rows i d))))
   where
-    one : (b : Bool) → fold (λ before c. placed c before) (ordered_to p cs i) (cond b (get_or cs i d ∷ []) []) ≡
-        cond b
-        (placed (get_or cs i d) (ordered_to p cs i)) (ordered_to p cs i)
+    one : (b : Bool) → fold (λ before c. placed c before) (ordered_to p rows i)
+        (map made_in (cond b (get_or rows i d ∷ []) [])) ≡
+        cond b (placed (made_in (get_or rows i d)) (ordered_to p rows i)) (ordered_to p rows i)
     one true = refl
     one false = refl
 
-pub ordered-with : (p : MadeCopy → Bool) (cs : List MadeCopy) (i : ℕ) (d : MadeCopy) → i < length cs → d ≡
-    get_or cs i d →
-    p d ≡ true → ordered_to p cs (i + 1) ≡ placed d (ordered_to p cs i)
-ordered-with p cs i d lt is pass =
-    let e : get_or cs i d ≡ d = sym is in
-    ordered-more p cs i d lt ∙ ap (λ c. cond (p c) (placed c (ordered_to p cs i)) (ordered_to p cs i)) e
-    ∙ ap (λ b. cond b (placed d (ordered_to p cs i)) (ordered_to p cs i)) pass
+pub ordered-with : (p : Row → Bool) (rows : List Row) (i : ℕ) (d : Row) → i < length rows → d ≡ get_or rows i d →
+    p d ≡ true → ordered_to p rows (i + 1) ≡ placed (made_in d) (ordered_to p rows i)
+ordered-with p rows i d lt is pass =
+    let e : get_or rows i d ≡ d = sym is in
+    ordered-more p rows i d lt ∙ ap (λ r. cond (p r) (placed (made_in r) (ordered_to p rows i)) (ordered_to p rows i)) e
+    ∙ ap (λ b. cond b (placed (made_in d) (ordered_to p rows i)) (ordered_to p rows i)) pass
 
 -- the first of the copies with one more
-pub first-more : (p : MadeCopy → Bool) (cs : List MadeCopy) (i : ℕ) (d : MadeCopy) (first : Option MadeCopy) →
-    i < length cs →
-    d ≡ get_or cs i d → p d ≡ true → first ≡ slice_get (ordered_to p cs i) 0 → earlier first d ≡ slice_get
-    (ordered_to p cs (i + 1)) 0
-first-more p cs i d first lt is pass so =
-    ap (λ o. earlier o d) so ∙ sym (first-placed d (ordered_to p cs i))
-    ∙ ap (λ ds. slice_get ds 0) (sym (ordered-with p cs i d lt is pass))
+pub first-more : (p : Row → Bool) (rows : List Row) (i : ℕ) (d : Row) (first : Option MadeCopy) → i < length rows →
+    d ≡ get_or rows i d → p d ≡ true → first ≡ slice_get (ordered_to p rows i) 0 → earlier first (made_in d) ≡ slice_get
+    (ordered_to p rows (i + 1)) 0
+first-more p rows i d first lt is pass so =
+    ap (λ o. earlier o (made_in d)) so ∙ sym (first-placed (made_in d) (ordered_to p rows i))
+    ∙ ap (λ ds. slice_get ds 0) (sym (ordered-with p rows i d lt is pass))
 
-pub firsts-more : (p : MadeCopy →
-    Bool) (cs : List MadeCopy) (i most : ℕ) (d : MadeCopy) (first : List MadeCopy) → i < length cs →
-    d ≡ get_or cs i d → p d ≡ true → first ≡ take most (ordered_to p cs i) → take most (placed d first) ≡ take most
-    (ordered_to p cs (i + 1))
-firsts-more p cs i most d first lt is pass so =
-    ap (λ ds. take most (placed d ds)) so ∙ placed-in-first most d (ordered_to p cs i)
-    ∙ ap (take most) (sym (ordered-with p cs i d lt is pass))
+pub firsts-more : (p : Row → Bool) (rows : List Row) (i most : ℕ) (d : Row) (first : List MadeCopy) →
+    i < length rows → d ≡ get_or rows i d → p d ≡ true → first ≡ take most (ordered_to p rows i) →
+    take most (placed (made_in d) first) ≡ take most (ordered_to p rows (i + 1))
+firsts-more p rows i most d first lt is pass so =
+    ap (λ ds. take most (placed (made_in d) ds)) so ∙ placed-in-first most (made_in d) (ordered_to p rows i)
+    ∙ ap (take most) (sym (ordered-with p rows i d lt is pass))

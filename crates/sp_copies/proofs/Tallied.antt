@@ -1,5 +1,5 @@
 -- How many copies are spooled, and how many a flow holds, by the lengths and counts of rows.
-use Rattle.std.proofs.Common.{◌≡◌, ◌≤◌, ◌==◌, ℕ, ◌+◌, suc, Bool, true, false, not, ◌&&◌, ◌||◌, cond, List, [], ◌∷◌, refl, ap, sym, subst, arith, ◌∙◌, le_trans, All, count_by, filter, map, length, IsTrue}
+use Rattle.std.proofs.Common.{◌≡◌, ◌≤◌, ◌==◌, ℕ, ◌+◌, suc, Bool, true, false, not, ◌&&◌, ◌||◌, cond, List, [], ◌∷◌, refl, ap, sym, arith, ◌∙◌, le_trans, All, count_by, filter, length, IsTrue}
 use Rattle.std.specs.List.{list_any}
 use Rattle.std.proofs.lemmas.Bool.{and_parts, eq-eqb, eqb-true, or_parts}
 use Rattle.std.proofs.lemmas.List.{length-map}
@@ -101,7 +101,7 @@ count-one copy false made most is = count-never (λ c. (copy == c.number) && fal
     nothing true = refl
     nothing false = refl
 
-held-apart : (h : HeldCopy) (hs : List HeldCopy) → count_by (λ (x : HeldCopy). x.copy == h.copy) (h ∷ hs) ≤ 1 →
+pub held-apart : (h : HeldCopy) (hs : List HeldCopy) → count_by (λ (x : HeldCopy). x.copy == h.copy) (h ∷ hs) ≤ 1 →
     is_held hs h.copy ≡ false
 held-apart h hs once =
     let more : count_by (λ (x : HeldCopy). x.copy == h.copy) (h ∷ hs) ≡ 1 + count_by
@@ -111,7 +111,7 @@ held-apart h hs once =
     (omega (arith, more, once, length-filter {X = HeldCopy} (λ x. x.copy == h.copy) hs))
 
 -- what no flow holds this one doesn't
-held-by-none : (hs : List HeldCopy) (flow copy : ℕ) → is_held hs copy ≡ false → is_held_by hs flow copy ≡ false
+pub held-by-none : (hs : List HeldCopy) (flow copy : ℕ) → is_held hs copy ≡ false → is_held_by hs flow copy ≡ false
 held-by-none [] flow copy none = refl
 held-by-none (h ∷ hs) flow copy none =
     let both = or_parts (h.copy == copy) (is_held hs copy) none in

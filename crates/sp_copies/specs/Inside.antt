@@ -1,18 +1,17 @@
 -- What contracts see of a store's rows, and what holds of them.
-use Rattle.std.specs.Prelude.{ℕ, ◌+◌, ◌≤◌, ◌&&◌, not, count_by, Option, None, Some, if◌then◌else◌}
+use Rattle.std.specs.Prelude.{◌≡◌, ℕ, ◌+◌, ◌≤◌, Option, None, Some, length, if◌then◌else◌}
 use Rattle.sp_copies.specs.declared.made.MadeCopy.{MadeCopy}
 use Rattle.sp_copies.specs.declared.copies.Copies.TheInside.{Inside}
 use Rattle.sp_copies.specs.Counts.{spooled_count}
 use Rattle.sp_copies.specs.Due.{is_earlier}
-use Rattle.sp_copies.specs.History.{History, is_closed, is_held}
+use Rattle.sp_copies.specs.History.{History, used_bytes}
 use Rattle.sp_copies.specs.Kept.{Kept, Records}
+use Rattle.sp_copies.specs.Usage.{used_at}
 
 abbrev pub kept_in : Inside → Kept
 kept_in c = record {
-  made = c.made.items;
+  rows = c.rows.rows;
   closed = c.closed.items;
-  held = c.held.items;
-  attempts = c.attempts.items;
   next = c.next;
   spare = c.spare;
 }
@@ -21,21 +20,19 @@ kept_in c = record {
 abbrev pub spooled : History → ℕ
 spooled H = spooled_count H None
 
--- how many of them no flow holds
-abbrev pub free : History → ℕ
-free H = count_by (λ c. not (is_closed H.closed c.number) && not (is_held H.held c.number)) H.made
-
 -- the earlier of what a scan found so far and a further copy
 abbrev pub earlier : Option MadeCopy → MadeCopy → Option MadeCopy
 earlier None c = Some c
 earlier (Some d) c = Some (if is_earlier c d then c else d)
 
--- there is a sound history for which the rows stand, and there is room: to make `spare` copies, to close each of them
--- and each spooled one, and to hand out each of them and each free one
+-- there is a sound history for which the rows stand, the next number follows on theirs, the totals are its used bytes,
+-- and there is room: to make `spare` copies, each in an endpoint of its own, and to close each of them and each spooled
+-- one
 pub record IsStore (c : Inside) : Type 0 where
   pub history : History
   pub stands : Records (kept_in c) history
-  pub to_make : c.spare ≤ c.made.room
-  pub to_count : c.spare ≤ c.attempts.room
+  pub follows : c.next ≡ c.rows.first + length c.rows.rows
+  pub used : (e : ℕ) → used_at c.usage e ≡ used_bytes history e
+  pub to_make : c.spare ≤ c.rows.room
+  pub to_total : c.spare ≤ c.usage.room
   pub to_close : spooled history + c.spare ≤ c.closed.room
-  pub to_hold : free history + c.spare ≤ c.held.room

@@ -3,4 +3,7 @@ pub mod Due
 pub mod History
 pub mod Inside
 pub mod Kept
+pub mod Rows
 pub mod Sound
+pub mod Table
+pub mod Usage

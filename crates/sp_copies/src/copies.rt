@@ -8,20 +8,19 @@ mod count;
 mod read;
 
 use crate::closed::ClosedCopy;
-use crate::held::{CopyAttempts, HeldCopy};
-use crate::made::MadeCopy;
+use crate::table::Table;
+use crate::usage::Usage;
 use sp_base::rows::Rows;
 use std::alloc::{AllocError, Global};
 use std::marker::Model;
 
 /// The store of all copies: what was ever made and closed, what flows hold, and how often each copy
-/// was handed out.
+/// was handed out. A copy's row is found by its number at once, whatever else there is.
 #[derive(Drop)]
 pub struct Copies {
-    made: Rows<MadeCopy>,
+    rows: Table,
     closed: Rows<ClosedCopy>,
-    held: Rows<HeldCopy>,
-    attempts: Rows<CopyAttempts>,
+    usage: Usage,
     next: u64,
     spare: usize,
 }
@@ -44,10 +43,9 @@ impl Copies {
         ensures { Records result (empty_history next) }
     {
         Copies {
-            made: Rows::new(alloc),
+            rows: Table::new(alloc, next),
             closed: Rows::new(alloc),
-            held: Rows::new(alloc),
-            attempts: Rows::new(alloc),
+            usage: Usage::new(alloc),
             next,
             spare: 0,
         }
@@ -61,10 +59,9 @@ impl Copies {
         ensures kept { self.old.spare ≤ self.new.spare }
     {
         let later = rows_for(self.spooled(), more)?;
-        self.made.reserve(more)?;
-        self.attempts.reserve(more)?;
+        self.rows.reserve(more)?;
         self.closed.reserve(later)?;
-        self.held.reserve(later)?;
+        self.usage.reserve(more)?;
         self.spare = self.spare.max(more);
         Ok(())
     }
@@ -81,11 +78,11 @@ impl Copies {
     fn spooled(&self) -> usize
         ensures { (H : History) → Records self.now H → spooled H ≤ result }
     {
-        self.made.len() - self.closed.len()
+        self.rows.len() - self.closed.len()
     }
 }
 
-/// The rows for the later handing out or closing of what is spooled and of what is to be made.
+/// The rows for the closing of what is spooled and of what is to be made.
 fn rows_for(spooled: usize, more: usize) -> Result<usize, AllocError>
     ensures { IfOk result (λ rows. rows ≡ spooled + more) }
 {

@@ -1,11 +1,11 @@
 // How many copies were made, are spooled, and were closed in which way.
-ghost use Rattle.std.specs.Prelude.{◌≡◌, ◌<◌, ◌-◌, ◌&&◌, filter, count_by, not, map, nat_lt, Some, IfOk};
-ghost use Rattle.sp_copies.specs.History.{is_closed};
-ghost use Rattle.sp_copies.specs.Counts.{is_of, is_made_in, is_accepted, is_moved, is_discarded, is_discarded_by, all_causes};
+ghost use Rattle.std.specs.Prelude.{◌≡◌, ◌&&◌, filter, count_by, map, nat_lt, Some, IfOk};
+ghost use Rattle.sp_copies.specs.Counts.{is_of, is_accepted, is_moved, is_discarded, is_discarded_by, all_causes};
+ghost use Rattle.sp_copies.specs.Rows.{is_made_in_rows, is_open_row, made_in};
 
 use crate::closed::{Cause, CauseCount, ClosedCopy, Closing};
-use crate::look::has_closing;
-use crate::made::MadeCopy;
+use crate::made::{MadeCopy, Row};
+use crate::table::Table;
 use sp_base::number::{CopyNo, EndpointNo};
 use std::alloc::{AllocError, Global};
 
@@ -18,10 +18,13 @@ fn is_of(endpoint: Option<EndpointNo>, copy: &MadeCopy) -> bool
     }
 }
 
-fn is_made_in(made: &[MadeCopy], endpoint: Option<EndpointNo>, copy: CopyNo) -> bool
-    ensures { result ≡ is_made_in made.now endpoint copy }
+fn is_made_in(rows: &Table, endpoint: Option<EndpointNo>, copy: CopyNo) -> bool
+    ensures { result ≡ is_made_in_rows rows.now.rows endpoint copy }
 {
-    made.iter().any(|c| c.number == copy && is_of(endpoint, c))
+    match rows.get(copy) {
+        Some(row) => is_of(endpoint, &row.made()),
+        None => false,
+    }
 }
 
 fn is_accepted(how: Closing) -> bool
@@ -60,87 +63,75 @@ fn is_discarded_by(cause: Cause, how: Closing) -> bool
     }
 }
 
-pub fn count_made(made: &[MadeCopy], endpoint: Option<EndpointNo>) -> usize
-    ensures { result ≡ count_by (is_of endpoint) made.now }
+pub fn count_made(rows: &[Row], endpoint: Option<EndpointNo>) -> usize
+    ensures { result ≡ count_by (λ r. is_of endpoint (made_in r)) rows.now }
 {
-    made.iter().filter(|c| is_of(endpoint, c)).count()
+    rows.iter().filter(|r| is_of(endpoint, &r.made())).count()
 }
 
-pub fn count_spooled(
-    made: &[MadeCopy],
-    closed: &[ClosedCopy],
-    endpoint: Option<EndpointNo>,
-) -> usize
-    ensures { result ≡ count_by (λ c. is_of endpoint c && not (is_closed closed.now c.number)) made.now }
+pub fn count_spooled(rows: &[Row], endpoint: Option<EndpointNo>) -> usize
+    ensures { result ≡ count_by (λ r. is_of endpoint (made_in r) && is_open_row r) rows.now }
 {
-    made.iter()
-        .filter(|c| is_of(endpoint, c) && !has_closing(closed, c.number))
+    rows.iter()
+        .filter(|r| is_of(endpoint, &r.made()) && r.is_open())
         .count()
 }
 
-pub fn count_accepted(
-    made: &[MadeCopy],
-    closed: &[ClosedCopy],
-    endpoint: Option<EndpointNo>,
-) -> usize
-    ensures { result ≡ count_by (λ x. is_made_in made.now endpoint x.copy && is_accepted (Some x.how)) closed.now }
+pub fn count_accepted(rows: &Table, closed: &[ClosedCopy], endpoint: Option<EndpointNo>) -> usize
+    ensures { result ≡ count_by (λ x. is_made_in_rows rows.now.rows endpoint x.copy && is_accepted (Some x.how)) closed.now }
 {
     closed
         .iter()
-        .filter(|x| is_made_in(made, endpoint, x.copy) && is_accepted(x.how))
+        .filter(|x| is_made_in(rows, endpoint, x.copy) && is_accepted(x.how))
         .count()
 }
 
-pub fn count_moved(made: &[MadeCopy], closed: &[ClosedCopy], endpoint: Option<EndpointNo>) -> usize
-    ensures { result ≡ count_by (λ x. is_made_in made.now endpoint x.copy && is_moved (Some x.how)) closed.now }
+pub fn count_moved(rows: &Table, closed: &[ClosedCopy], endpoint: Option<EndpointNo>) -> usize
+    ensures { result ≡ count_by (λ x. is_made_in_rows rows.now.rows endpoint x.copy && is_moved (Some x.how)) closed.now }
 {
     closed
         .iter()
-        .filter(|x| is_made_in(made, endpoint, x.copy) && is_moved(x.how))
+        .filter(|x| is_made_in(rows, endpoint, x.copy) && is_moved(x.how))
         .count()
 }
 
-pub fn count_discarded(
-    made: &[MadeCopy],
-    closed: &[ClosedCopy],
-    endpoint: Option<EndpointNo>,
-) -> usize
-    ensures { result ≡ count_by (λ x. is_made_in made.now endpoint x.copy && is_discarded (Some x.how)) closed.now }
+pub fn count_discarded(rows: &Table, closed: &[ClosedCopy], endpoint: Option<EndpointNo>) -> usize
+    ensures { result ≡ count_by (λ x. is_made_in_rows rows.now.rows endpoint x.copy && is_discarded (Some x.how)) closed.now }
 {
     closed
         .iter()
-        .filter(|x| is_made_in(made, endpoint, x.copy) && is_discarded(x.how))
+        .filter(|x| is_made_in(rows, endpoint, x.copy) && is_discarded(x.how))
         .count()
 }
 
 fn count_cause(
-    made: &[MadeCopy],
+    rows: &Table,
     closed: &[ClosedCopy],
     endpoint: Option<EndpointNo>,
     cause: Cause,
 ) -> usize
-    ensures { result ≡ count_by (λ x. is_made_in made.now endpoint x.copy && is_discarded_by cause (Some x.how)) closed.now }
+    ensures { result ≡ count_by (λ x. is_made_in_rows rows.now.rows endpoint x.copy && is_discarded_by cause (Some x.how)) closed.now }
 {
     closed
         .iter()
-        .filter(|x| is_made_in(made, endpoint, x.copy) && is_discarded_by(cause, x.how))
+        .filter(|x| is_made_in(rows, endpoint, x.copy) && is_discarded_by(cause, x.how))
         .count()
 }
 
 /// The causes that discarded copies, in the order of their names.
 pub fn count_causes(
     alloc: Global,
-    made: &[MadeCopy],
+    rows: &Table,
     closed: &[ClosedCopy],
     endpoint: Option<EndpointNo>,
 ) -> Result<Vec<CauseCount>, AllocError>
-    ensures { IfOk result (λ counts. counts.items ≡ filter (λ k. nat_lt 0 k.count) (map (λ cause. record { cause = cause; count = count_by (λ x. is_made_in made.now endpoint x.copy && is_discarded_by cause (Some x.how)) closed.now }) all_causes)) }
+    ensures { IfOk result (λ counts. counts.items ≡ filter (λ k. nat_lt 0 k.count) (map (λ cause. record { cause = cause; count = count_by (λ x. is_made_in_rows rows.now.rows endpoint x.copy && is_discarded_by cause (Some x.how)) closed.now }) all_causes)) }
 {
     Cause::ALL
         .iter()
         .map(|cause| CauseCount {
             cause: *cause,
-            count: count_cause(made, closed, endpoint, *cause) as u64,
+            count: count_cause(rows, closed, endpoint, *cause) as u64,
         })
         .filter(|counted| counted.count > 0)
         .collect(alloc)

@@ -1,27 +1,21 @@
 // Which copies are to expire, found by a scan over all rows.
-ghost use Rattle.std.specs.Prelude.{◌≡◌, ◌&&◌, not, [], filter, length, option_map, position, slice_get, take, ◌≤◌, IfOk, OnOk};
+ghost use Rattle.std.specs.Prelude.{◌≡◌, ◌&&◌, map, [], filter, length, option_map, position, slice_get, take, ◌≤◌, IfOk, OnOk};
 ghost use Rattle.std.specs.List.{position_or_len};
 ghost use Rattle.sp_copies.specs.Due.{by_deadline, deadline_of, is_earlier, placed};
 ghost use Rattle.sp_copies.specs.Inside.{earlier};
-ghost use Rattle.sp_copies.specs.History.{has_come, is_closed, is_held};
+ghost use Rattle.sp_copies.specs.History.{has_come};
+ghost use Rattle.sp_copies.specs.Rows.{is_free_row, made_in};
 
-use crate::closed::ClosedCopy;
-use crate::held::HeldCopy;
-use crate::holders::{has_come, is_held};
-use crate::look::has_closing;
-use crate::made::MadeCopy;
+use crate::holders::has_come;
+use crate::made::{MadeCopy, Row};
 use sp_base::moment::Moment;
 use sp_base::number::CopyNo;
 use std::alloc::{AllocError, Global};
 
-// What is asked of the deadline costs least, and of the closings most.
-fn is_due(closed: &[ClosedCopy], held: &[HeldCopy], moment: Moment, copy: &MadeCopy) -> bool
-    ensures { result ≡ (not (is_closed closed.now copy.now.number) && not (is_held held.now copy.now.number) && has_come copy.now.deadline moment) }
+fn is_due(moment: Moment, row: &Row) -> bool
+    ensures { result ≡ (is_free_row row.now && has_come row.now.deadline moment) }
 {
-    if !has_come(copy.deadline, moment) || is_held(held, copy.number) {
-        return false;
-    }
-    !has_closing(closed, copy.number)
+    row.is_free() && has_come(row.deadline, moment)
 }
 
 fn deadline_of(copy: &MadeCopy) -> u64
@@ -49,32 +43,22 @@ fn earlier(first: Option<MadeCopy>, copy: &MadeCopy) -> Option<MadeCopy>
 }
 
 /// The first of the copies that are due, in order of deadline and then of number.
-pub fn first_due(
-    made: &[MadeCopy],
-    closed: &[ClosedCopy],
-    held: &[HeldCopy],
-    moment: Moment,
-) -> Option<CopyNo>
-    ensures { result ≡ option_map (λ c. c.number) (slice_get (by_deadline (filter (λ c. not (is_closed closed.now c.number) && not (is_held held.now c.number) && has_come c.deadline moment) made.now)) 0) }
+pub fn first_due(rows: &[Row], moment: Moment) -> Option<CopyNo>
+    ensures { result ≡ option_map (λ c. c.number) (slice_get (by_deadline (map made_in (filter (λ r. is_free_row r && has_come r.deadline moment) rows.now))) 0) }
 {
-    let first = least_due(made, closed, held, moment)?;
+    let first = least_due(rows, moment)?;
     Some(first.number)
 }
 
-fn least_due(
-    made: &[MadeCopy],
-    closed: &[ClosedCopy],
-    held: &[HeldCopy],
-    moment: Moment,
-) -> Option<MadeCopy>
-    ensures { result ≡ slice_get (by_deadline (filter (λ c. not (is_closed closed.now c.number) && not (is_held held.now c.number) && has_come c.deadline moment) made.now)) 0 }
+fn least_due(rows: &[Row], moment: Moment) -> Option<MadeCopy>
+    ensures { result ≡ slice_get (by_deadline (map made_in (filter (λ r. is_free_row r && has_come r.deadline moment) rows.now))) 0 }
 {
     let mut first = None;
-    for copy in made {
-        if !is_due(closed, held, moment, copy) {
+    for row in rows {
+        if !is_due(moment, row) {
             continue;
         }
-        first = earlier(first, copy);
+        first = earlier(first, &row.made());
     }
     first
 }
@@ -82,20 +66,18 @@ fn least_due(
 /// The first `most` of the copies that are due, in that order.
 pub fn due(
     alloc: Global,
-    made: &[MadeCopy],
-    closed: &[ClosedCopy],
-    held: &[HeldCopy],
+    rows: &[Row],
     moment: Moment,
     most: usize,
 ) -> Result<Vec<MadeCopy>, AllocError>
-    ensures { IfOk result (λ copies. copies.items ≡ take most (by_deadline (filter (λ c. not (is_closed closed.now c.number) && not (is_held held.now c.number) && has_come c.deadline moment) made.now))) }
+    ensures { IfOk result (λ copies. copies.items ≡ take most (by_deadline (map made_in (filter (λ r. is_free_row r && has_come r.deadline moment) rows.now)))) }
 {
     let mut first = Vec::new(alloc);
-    for copy in made {
-        if !is_due(closed, held, moment, copy) {
+    for row in rows {
+        if !is_due(moment, row) {
             continue;
         }
-        place(&mut first, *copy, most)?;
+        place(&mut first, row.made(), most)?;
     }
     Ok(first)
 }

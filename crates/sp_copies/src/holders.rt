@@ -1,161 +1,103 @@
-// Look-ups over the rows of held copies and of attempts.
+// Who holds which copies, and which copies no flow holds.
 ghost use Rattle.std.specs.Prelude.{◌≡◌, ◌==◌, ◌&&◌, not, filter, find, map, count_by, option_and_then, IfOk};
-ghost use Rattle.sp_copies.specs.History.{is_open_in, is_held, is_held_by, holder_of, attempts_of, has_come};
+ghost use Rattle.sp_copies.specs.History.{has_come};
+ghost use Rattle.sp_copies.specs.Rows.{is_free_row, is_held_by_row, is_held_row, made_in};
 
-use crate::closed::ClosedCopy;
-use crate::held::{CopyAttempts, HeldCopy};
-use crate::look::has_closing;
-use crate::made::MadeCopy;
+use crate::made::{MadeCopy, Row};
 use sp_base::moment::Moment;
 use sp_base::number::{CopyNo, EndpointNo, FlowNo};
 use std::alloc::{AllocError, Global};
 
-pub fn is_held(held: &[HeldCopy], copy: CopyNo) -> bool
-    ensures { result ≡ is_held held.now copy }
-{
-    held.iter().any(|h| h.copy == copy)
-}
-
-pub fn is_held_by(held: &[HeldCopy], flow: FlowNo, copy: CopyNo) -> bool
-    ensures { result ≡ is_held_by held.now flow copy }
-{
-    held.iter().any(|h| h.copy == copy && h.flow == flow)
-}
-
-pub fn holder_of(held: &[HeldCopy], copy: CopyNo) -> Option<FlowNo>
-    ensures { result ≡ holder_of held.now copy }
-{
-    let found = held.iter().find(|h| h.copy == copy)?;
-    Some(found.flow)
-}
-
 /// The flow that holds the least held copy of an endpoint's partition.
-pub fn holder_in(
-    made: &[MadeCopy],
-    held: &[HeldCopy],
-    endpoint: EndpointNo,
-    partition: u64,
-) -> Option<FlowNo>
-    ensures { result ≡ option_and_then (λ c. holder_of held.now c.number) (find (λ c. (c.endpoint == endpoint) && (c.partition == partition) && is_held held.now c.number) made.now) }
+pub fn holder_in(rows: &[Row], endpoint: EndpointNo, partition: u64) -> Option<FlowNo>
+    ensures { result ≡ option_and_then (λ r. r.holder) (find (λ r. (r.endpoint == endpoint) && (r.partition == partition) && is_held_row r) rows.now) }
 {
-    let least = least_held(made, held, endpoint, partition)?;
-    holder_of(held, least.number)
+    match least_held(rows, endpoint, partition) {
+        Some(least) => least.holder,
+        None => None,
+    }
 }
 
-fn least_held(
-    made: &[MadeCopy],
-    held: &[HeldCopy],
-    endpoint: EndpointNo,
-    partition: u64,
-) -> Option<MadeCopy>
-    ensures { result ≡ find (λ c. (c.endpoint == endpoint) && (c.partition == partition) && is_held held.now c.number) made.now }
+fn least_held(rows: &[Row], endpoint: EndpointNo, partition: u64) -> Option<Row>
+    ensures { result ≡ find (λ r. (r.endpoint == endpoint) && (r.partition == partition) && is_held_row r) rows.now }
 {
-    made.iter()
-        .find(|c| is_held_in(held, endpoint, partition, c))
+    rows.iter()
+        .find(|r| is_held_in(endpoint, partition, r))
         .copied()
 }
 
-fn is_held_in(held: &[HeldCopy], endpoint: EndpointNo, partition: u64, copy: &MadeCopy) -> bool
-    ensures { result ≡ ((copy.now.endpoint == endpoint) && (copy.now.partition == partition) && is_held held.now copy.now.number) }
+fn is_held_in(endpoint: EndpointNo, partition: u64, row: &Row) -> bool
+    ensures { result ≡ ((row.now.endpoint == endpoint) && (row.now.partition == partition) && is_held_row row.now) }
 {
-    if copy.endpoint != endpoint || copy.partition != partition {
+    if row.endpoint != endpoint || row.partition != partition {
         return false;
     }
-    is_held(held, copy.number)
+    row.is_held()
 }
 
-pub fn attempts_of(attempts: &[CopyAttempts], copy: CopyNo) -> u64
-    ensures { result ≡ attempts_of attempts.now copy }
+/// How many copies a flow holds.
+pub fn count_held_by(rows: &[Row], flow: FlowNo) -> usize
+    ensures { result ≡ count_by (λ r. is_held_by_row flow r) rows.now }
 {
-    match attempts.iter().find(|a| a.copy == copy) {
-        Some(found) => found.count,
-        None => 0,
-    }
-}
-
-/// How many rows are of the flow.
-pub fn count_held_by(held: &[HeldCopy], flow: FlowNo) -> usize
-    ensures { result ≡ count_by (λ h. h.flow == flow) held.now }
-{
-    held.iter().filter(|h| h.flow == flow).count()
+    rows.iter().filter(|r| r.is_held_by(flow)).count()
 }
 
 /// The copies that a flow holds, in order of number.
-pub fn held_by(
-    alloc: Global,
-    made: &[MadeCopy],
-    held: &[HeldCopy],
-    flow: FlowNo,
-) -> Result<Vec<CopyNo>, AllocError>
-    ensures { IfOk result (λ copies. copies.items ≡ map (λ c. c.number) (filter (λ c. is_held_by held.now flow c.number) made.now)) }
+pub fn held_by(alloc: Global, rows: &[Row], flow: FlowNo) -> Result<Vec<CopyNo>, AllocError>
+    ensures { IfOk result (λ copies. copies.items ≡ map (λ r. r.number) (filter (λ r. is_held_by_row flow r) rows.now)) }
 {
-    made.iter()
-        .filter(|c| is_held_by(held, flow, c.number))
-        .map(|c| c.number)
+    rows.iter()
+        .filter(|r| r.is_held_by(flow))
+        .map(|r| r.number)
         .collect(alloc)
 }
 
 /// The same as they were made.
-pub fn held_copies(
-    alloc: Global,
-    made: &[MadeCopy],
-    held: &[HeldCopy],
-    flow: FlowNo,
-) -> Result<Vec<MadeCopy>, AllocError>
-    ensures { IfOk result (λ copies. copies.items ≡ filter (λ c. is_held_by held.now flow c.number) made.now) }
+pub fn held_copies(alloc: Global, rows: &[Row], flow: FlowNo) -> Result<Vec<MadeCopy>, AllocError>
+    ensures { IfOk result (λ copies. copies.items ≡ map made_in (filter (λ r. is_held_by_row flow r) rows.now)) }
 {
-    made.iter()
-        .filter(|c| is_held_by(held, flow, c.number))
-        .copied()
+    rows.iter()
+        .filter(|r| r.is_held_by(flow))
+        .map(|r| r.made())
         .collect(alloc)
 }
 
 /// The copies that any flow holds, in order of number.
-pub fn all_held(
-    alloc: Global,
-    made: &[MadeCopy],
-    held: &[HeldCopy],
-) -> Result<Vec<MadeCopy>, AllocError>
-    ensures { IfOk result (λ copies. copies.items ≡ filter (λ c. is_held held.now c.number) made.now) }
+pub fn all_held(alloc: Global, rows: &[Row]) -> Result<Vec<MadeCopy>, AllocError>
+    ensures { IfOk result (λ copies. copies.items ≡ map made_in (filter (λ r. is_held_row r) rows.now)) }
 {
-    made.iter()
-        .filter(|c| is_held(held, c.number))
-        .copied()
+    rows.iter()
+        .filter(|r| r.is_held())
+        .map(|r| r.made())
         .collect(alloc)
 }
 
 /// The spooled copies of an endpoint that no flow holds.
 pub fn free_in(
     alloc: Global,
-    made: &[MadeCopy],
-    closed: &[ClosedCopy],
-    held: &[HeldCopy],
+    rows: &[Row],
     endpoint: EndpointNo,
 ) -> Result<Vec<MadeCopy>, AllocError>
-    ensures { IfOk result (λ copies. copies.items ≡ filter (λ c. not (is_held held.now c.number)) (filter (is_open_in closed.now endpoint) made.now)) }
+    ensures { IfOk result (λ copies. copies.items ≡ map made_in (filter (λ r. (r.endpoint == endpoint) && is_free_row r) rows.now)) }
 {
-    made.iter()
-        .filter(|c| c.endpoint == endpoint && !has_closing(closed, c.number))
-        .filter(|c| !is_held(held, c.number))
-        .copied()
+    rows.iter()
+        .filter(|r| r.endpoint == endpoint && r.is_free())
+        .map(|r| r.made())
         .collect(alloc)
 }
 
 /// The spooled copies of an endpoint that no flow holds and whose deadline hasn't come.
 pub fn waiting(
     alloc: Global,
-    made: &[MadeCopy],
-    closed: &[ClosedCopy],
-    held: &[HeldCopy],
+    rows: &[Row],
     endpoint: EndpointNo,
     moment: Moment,
 ) -> Result<Vec<MadeCopy>, AllocError>
-    ensures { IfOk result (λ copies. copies.items ≡ filter (λ c. not (is_held held.now c.number) && not (has_come c.deadline moment)) (filter (is_open_in closed.now endpoint) made.now)) }
+    ensures { IfOk result (λ copies. copies.items ≡ map made_in (filter (λ r. (r.endpoint == endpoint) && is_free_row r && not (has_come r.deadline moment)) rows.now)) }
 {
-    made.iter()
-        .filter(|c| c.endpoint == endpoint && !has_closing(closed, c.number))
-        .filter(|c| !is_held(held, c.number) && !has_come(c.deadline, moment))
-        .copied()
+    rows.iter()
+        .filter(|r| { r.endpoint == endpoint && r.is_free() && !has_come(r.deadline, moment) })
+        .map(|r| r.made())
         .collect(alloc)
 }
 

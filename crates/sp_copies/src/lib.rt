@@ -10,5 +10,7 @@ pub mod held;
 mod holders;
 mod look;
 pub mod made;
+mod table;
 #[cfg(test)]
 mod tests;
+mod usage;

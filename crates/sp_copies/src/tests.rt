@@ -17,7 +17,7 @@ fn make(
     deadline: Option<u64>,
 ) -> CopyNo {
     assert!(rt; copies.spare() > 0);
-    assert!(rt; copies.next() < 100);
+    assert!(rt; copies.next() < 1000);
     assert!(rt; copies.used(endpoint) + 64 <= 1 << 40);
     copies.make(NewCopy {
         endpoint,
@@ -293,5 +293,97 @@ fn held_and_free_copies_as_they_were_made(rt: HostRuntime) -> Result<(), Fail> {
         .map(|c| c.number.value())
         .collect(alloc)?;
     assert_eq!(rt; numbers.as_slice(), [1, 2, 3, 4].as_slice());
+    Ok(())
+}
+
+// A copy as plain rows have it.
+#[derive(Clone, Copy)]
+struct Plain {
+    number: CopyNo,
+    queue: EndpointNo,
+    holder: Option<FlowNo>,
+    is_open: bool,
+}
+
+// The next of numbers that look like chance.
+fn drawn(last: u64) -> u64 {
+    last.wrapping_mul(6_364_136_223_846_793_005)
+        .wrapping_add(1_442_695_040_888_963_407)
+}
+
+// Closes a spooled copy, hands it out, or takes it back, and gives its plain row afterwards.
+fn changed(rt: &impl Abort, copies: &mut Copies, row: Plain, kind: u64) -> Plain {
+    let number = row.number;
+    let queue = row.queue;
+    let flow = FlowNo::of(1 + kind % 3);
+    let (step, holder, is_open) = match row.holder {
+        _ if kind == 0 => (Step::Close(Closing::Accepted), None, false),
+        None => (Step::Hold(flow), Some(flow), true),
+        Some(_) => (Step::GiveBack, None, true),
+    };
+    take(rt, copies, number, step);
+    Plain {
+        number,
+        queue,
+        holder,
+        is_open,
+    }
+}
+
+// Makes a copy in one of three queues, or changes one that was made.
+fn walk_on(
+    rt: &impl Abort,
+    copies: &mut Copies,
+    rows: &mut Vec<Plain>,
+    draw: u64,
+) -> Result<(), Fail> {
+    if rows.is_empty() || (draw >> 33) % 4 == 0 {
+        let queue = EndpointNo::of(1 + (draw >> 40) % 3);
+        let number = make(rt, copies, queue, None);
+        rows.push(Plain {
+            number,
+            queue,
+            holder: None,
+            is_open: true,
+        })?;
+        return Ok(());
+    }
+    let place = (draw >> 40) as usize % rows.len();
+    if rows[place].is_open {
+        rows[place] = changed(rt, copies, rows[place], (draw >> 36) % 4);
+    }
+    Ok(())
+}
+
+// The bytes of the spooled copies of a queue, of 64 bytes each.
+fn plain_used(rows: &[Plain], queue: EndpointNo) -> usize {
+    64 * rows
+        .iter()
+        .filter(|row| row.is_open && row.queue == queue)
+        .count()
+}
+
+#[test]
+fn a_random_walk_agrees_with_plain_rows(rt: HostRuntime) -> Result<(), Fail> {
+    let alloc = rt.alloc();
+    let mut copies = Copies::new(alloc, 1);
+    let mut rows: Vec<Plain> = Vec::new(alloc);
+    let mut draw = 1u64;
+    for _step in 0..600u64 {
+        draw = drawn(draw);
+        copies.reserve(1)?;
+        walk_on(&rt, &mut copies, &mut rows, draw)?;
+    }
+    for row in rows.as_slice() {
+        assert_eq!(rt; copies.is_spooled(row.number), row.is_open);
+        assert_eq!(rt; copies.holder_of(row.number), row.holder);
+    }
+    for queue in 1..4u64 {
+        let queue = EndpointNo::of(queue);
+        assert_eq!(rt;
+            copies.used(queue) as usize,
+            plain_used(rows.as_slice(), queue)
+        );
+    }
     Ok(())
 }

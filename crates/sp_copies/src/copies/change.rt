@@ -1,11 +1,10 @@
 // The changes of a store, which take no memory.
 ghost use Rattle.std.specs.Prelude.{◌≡◌, ◌≤◌, ◌<◌, ◌+◌, ◌^◌, length, true};
-ghost use Rattle.sp_copies.specs.History.{History, used_bytes, is_spooled, is_free, is_held, with_made, with_closed, with_held, with_given_back, with_share, all_shared};
+ghost use Rattle.sp_copies.specs.History.{History, used_bytes, is_spooled, is_free, is_held, numbered, with_made, with_closed, with_held, with_given_back, with_share, all_shared};
 ghost use Rattle.sp_copies.specs.Kept.{MayBeShared, Records};
 
 use crate::closed::{Cause, ClosedCopy, Closing};
 use crate::copies::Copies;
-use crate::held::{CopyAttempts, HeldCopy, count_attempt, let_go};
 use crate::made::{MadeCopy, NewCopy, Share};
 use sp_base::moment::Moment;
 use sp_base::number::{CopyNo, FlowNo};
@@ -21,19 +20,10 @@ impl Copies {
         ensures room { self.old.spare ≤ self.new.spare + 1 }
     {
         let number = CopyNo::of(self.next);
-        self.made.add(MadeCopy {
-            number,
-            endpoint: copy.endpoint,
-            message: copy.message,
-            size: copy.size,
-            origin: copy.origin,
-            deadline: copy.deadline,
-            partition: copy.partition,
-        });
-        self.attempts.add(CopyAttempts {
-            copy: number,
-            count: 0,
-        });
+        let endpoint = copy.endpoint;
+        let size = copy.size;
+        self.rows.add(numbered(number, copy));
+        self.usage.add(endpoint, size);
         self.next += 1;
         self.spare -= 1;
         number
@@ -71,12 +61,18 @@ impl Copies {
         ensures closed { (H : History) → Records self.old H → Records self.new (with_closed copy how at H) }
         ensures room { self.old.spare ≤ self.new.spare }
     {
+        let place = self.closed.len();
         self.closed.add(ClosedCopy {
             copy,
             how,
             moment: at,
         });
-        let_go(&mut self.held, copy);
+        if let Some(row) = self.rows.get(copy) {
+            let endpoint = row.endpoint;
+            let size = row.size;
+            self.rows.set(row.closed(place));
+            self.usage.subtract(endpoint, size);
+        }
     }
 
     /// Hands a spooled copy that no flow holds out to a flow, and takes no memory.
@@ -85,8 +81,9 @@ impl Copies {
         ensures held { (H : History) → Records self.old H → Records self.new (with_held copy flow H) }
         ensures room { self.old.spare ≤ self.new.spare }
     {
-        self.held.add(HeldCopy { copy, flow });
-        count_attempt(&mut self.attempts, copy);
+        if let Some(row) = self.rows.get(copy) {
+            self.rows.set(row.held(flow));
+        }
     }
 
     /// Takes a copy back from the flow that holds it, and takes no memory.
@@ -95,6 +92,22 @@ impl Copies {
         ensures given_back { (H : History) → Records self.old H → Records self.new (with_given_back copy H) }
         ensures room { self.old.spare ≤ self.new.spare }
     {
-        let_go(&mut self.held, copy);
+        if let Some(row) = self.rows.get(copy) {
+            self.rows.set(row.given_back());
+        }
+    }
+}
+
+fn numbered(number: CopyNo, copy: NewCopy) -> MadeCopy
+    ensures { result ≡ numbered number copy }
+{
+    MadeCopy {
+        number,
+        endpoint: copy.endpoint,
+        message: copy.message,
+        size: copy.size,
+        origin: copy.origin,
+        deadline: copy.deadline,
+        partition: copy.partition,
     }
 }

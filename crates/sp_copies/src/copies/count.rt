@@ -16,35 +16,35 @@ impl Copies {
     pub fn count_made(&self, endpoint: Option<EndpointNo>) -> u64
         ensures { (H : History) → Records self.now H → result ≡ made_count H endpoint }
     {
-        counts::count_made(self.made.as_slice(), endpoint) as u64
+        counts::count_made(self.rows.as_slice(), endpoint) as u64
     }
 
     /// How many of them are spooled.
     pub fn count_spooled(&self, endpoint: Option<EndpointNo>) -> u64
         ensures { (H : History) → Records self.now H → result ≡ spooled_count H endpoint }
     {
-        counts::count_spooled(self.made.as_slice(), self.closed.as_slice(), endpoint) as u64
+        counts::count_spooled(self.rows.as_slice(), endpoint) as u64
     }
 
     /// How many of them were accepted.
     pub fn count_accepted(&self, endpoint: Option<EndpointNo>) -> u64
         ensures { (H : History) → Records self.now H → result ≡ closing_count H endpoint (λ how. is_accepted (Some how)) }
     {
-        counts::count_accepted(self.made.as_slice(), self.closed.as_slice(), endpoint) as u64
+        counts::count_accepted(&self.rows, self.closed.as_slice(), endpoint) as u64
     }
 
     /// How many of them were moved to a dead-message queue.
     pub fn count_moved(&self, endpoint: Option<EndpointNo>) -> u64
         ensures { (H : History) → Records self.now H → result ≡ closing_count H endpoint (λ how. is_moved (Some how)) }
     {
-        counts::count_moved(self.made.as_slice(), self.closed.as_slice(), endpoint) as u64
+        counts::count_moved(&self.rows, self.closed.as_slice(), endpoint) as u64
     }
 
     /// How many of them were discarded.
     pub fn count_discarded(&self, endpoint: Option<EndpointNo>) -> u64
         ensures { (H : History) → Records self.now H → result ≡ closing_count H endpoint (λ how. is_discarded (Some how)) }
     {
-        counts::count_discarded(self.made.as_slice(), self.closed.as_slice(), endpoint) as u64
+        counts::count_discarded(&self.rows, self.closed.as_slice(), endpoint) as u64
     }
 
     /// The causes that discarded them, in the order of their names.
@@ -55,12 +55,7 @@ impl Copies {
     ) -> Result<Items<CauseCount>, AllocError>
         ensures { IfOk result (λ counts. (H : History) → Records self.now H → counts ≡ causes_in H endpoint) }
     {
-        let counts = counts::count_causes(
-            alloc,
-            self.made.as_slice(),
-            self.closed.as_slice(),
-            endpoint,
-        )?;
+        let counts = counts::count_causes(alloc, &self.rows, self.closed.as_slice(), endpoint)?;
         Ok(Items::from_vec(counts))
     }
 
@@ -77,6 +72,6 @@ impl Copies {
     fn used_in_all(&self) -> u64
         ensures { (H : History) → Records self.now H → result ≡ min (used_in H None) (2 ^ 64 - 1) }
     {
-        look::used_by_all(self.made.as_slice(), self.closed.as_slice())
+        look::used_by_all(self.rows.as_slice())
     }
 }

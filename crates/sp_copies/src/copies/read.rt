@@ -6,7 +6,6 @@ ghost use Rattle.sp_copies.specs.Kept.{Records};
 
 use crate::closed::Fate;
 use crate::copies::Copies;
-use crate::look::used_by;
 use crate::made::MadeCopy;
 use crate::{due, fates, holders};
 use sp_base::items::Items;
@@ -26,40 +25,47 @@ impl Copies {
     pub fn copy(&self, copy: CopyNo) -> Option<MadeCopy>
         ensures { (H : History) → Records self.now H → result ≡ copy_of H.made copy }
     {
-        fates::copy_of(self.made.as_slice(), copy)
+        match self.rows.get(copy) {
+            Some(row) => Some(row.made()),
+            None => None,
+        }
     }
 
     /// What has become of a copy. A closing is told until 1,000,000 others have come after it.
     pub fn fate(&self, copy: CopyNo) -> Fate
         ensures { (H : History) → Records self.now H → result ≡ fate_of H copy }
     {
-        fates::fate_of(self.made.as_slice(), self.closed.as_slice(), copy)
+        match self.rows.get(copy) {
+            Some(row) => fates::fate_at(self.closed.as_slice(), row.closing),
+            None => Fate::Never,
+        }
     }
 
     /// Whether a copy was made and not closed.
     pub fn is_spooled(&self, copy: CopyNo) -> bool
         ensures { (H : History) → Records self.now H → result ≡ is_spooled H copy }
     {
-        fates::is_spooled(self.made.as_slice(), self.closed.as_slice(), copy)
+        match self.rows.get(copy) {
+            Some(row) => row.is_open(),
+            None => false,
+        }
     }
 
     /// Whether a copy is spooled and no flow holds it.
     pub fn is_free(&self, copy: CopyNo) -> bool
         ensures { (H : History) → Records self.now H → result ≡ is_free H copy }
     {
-        self.is_spooled(copy) && !self.is_held(copy)
+        match self.rows.get(copy) {
+            Some(row) => row.is_free(),
+            None => false,
+        }
     }
 
     /// The least spooled copy of an endpoint above a number.
     pub fn next_spooled(&self, endpoint: EndpointNo, after: CopyNo) -> Option<CopyNo>
         ensures { (H : History) → Records self.now H → result ≡ next_spooled H endpoint after }
     {
-        fates::next_spooled(
-            self.made.as_slice(),
-            self.closed.as_slice(),
-            endpoint,
-            after,
-        )
+        fates::next_spooled(self.rows.as_slice(), endpoint, after)
     }
 
     /// The bytes that an endpoint's spooled copies use.
@@ -67,54 +73,61 @@ impl Copies {
         ensures value { (H : History) → Records self.now H → result ≡ used_bytes H endpoint }
         ensures bound { result ≤ 2 ^ 40 }
     {
-        used_by(self.made.as_slice(), self.closed.as_slice(), endpoint)
+        self.usage.used(endpoint)
     }
 
     /// How often a copy was handed out. The count stops at the greatest u64.
     pub fn attempts(&self, copy: CopyNo) -> u64
         ensures { (H : History) → Records self.now H → result ≡ attempts_of H.attempts copy }
     {
-        holders::attempts_of(self.attempts.as_slice(), copy)
+        match self.rows.get(copy) {
+            Some(row) => row.attempts,
+            None => 0,
+        }
     }
 
     /// The flow that holds the least held copy of an endpoint's partition.
     pub fn holder(&self, endpoint: EndpointNo, partition: u64) -> Option<FlowNo>
         ensures { (H : History) → Records self.now H → result ≡ holder_in H endpoint partition }
     {
-        holders::holder_in(
-            self.made.as_slice(),
-            self.held.as_slice(),
-            endpoint,
-            partition,
-        )
+        holders::holder_in(self.rows.as_slice(), endpoint, partition)
     }
 
     /// The flow that holds a copy.
     pub fn holder_of(&self, copy: CopyNo) -> Option<FlowNo>
         ensures { (H : History) → Records self.now H → result ≡ holder_of H.held copy }
     {
-        holders::holder_of(self.held.as_slice(), copy)
+        match self.rows.get(copy) {
+            Some(row) => row.holder,
+            None => None,
+        }
     }
 
     /// Whether a flow holds a copy.
     pub fn is_held(&self, copy: CopyNo) -> bool
         ensures { (H : History) → Records self.now H → result ≡ is_held H.held copy }
     {
-        holders::is_held(self.held.as_slice(), copy)
+        match self.rows.get(copy) {
+            Some(row) => row.is_held(),
+            None => false,
+        }
     }
 
     /// Whether this flow holds a copy.
     pub fn is_held_by(&self, flow: FlowNo, copy: CopyNo) -> bool
         ensures { (H : History) → Records self.now H → result ≡ is_held_by H.held flow copy }
     {
-        holders::is_held_by(self.held.as_slice(), flow, copy)
+        match self.rows.get(copy) {
+            Some(row) => row.is_held_by(flow),
+            None => false,
+        }
     }
 
     /// The copies that a flow holds, in order of number.
     pub fn held_by(&self, alloc: Global, flow: FlowNo) -> Result<Items<CopyNo>, AllocError>
         ensures { IfOk result (λ copies. (H : History) → Records self.now H → copies ≡ held_by H flow) }
     {
-        let copies = holders::held_by(alloc, self.made.as_slice(), self.held.as_slice(), flow)?;
+        let copies = holders::held_by(alloc, self.rows.as_slice(), flow)?;
         Ok(Items::from_vec(copies))
     }
 
@@ -122,14 +135,14 @@ impl Copies {
     pub fn count_held_by(&self, flow: FlowNo) -> usize
         ensures { (H : History) → Records self.now H → result ≡ length (held_by H flow) }
     {
-        holders::count_held_by(self.held.as_slice(), flow)
+        holders::count_held_by(self.rows.as_slice(), flow)
     }
 
     /// The same as they were made.
     pub fn held_copies(&self, alloc: Global, flow: FlowNo) -> Result<Items<MadeCopy>, AllocError>
         ensures { IfOk result (λ copies. (H : History) → Records self.now H → copies ≡ held_copies H flow) }
     {
-        let copies = holders::held_copies(alloc, self.made.as_slice(), self.held.as_slice(), flow)?;
+        let copies = holders::held_copies(alloc, self.rows.as_slice(), flow)?;
         Ok(Items::from_vec(copies))
     }
 
@@ -137,7 +150,7 @@ impl Copies {
     pub fn all_held(&self, alloc: Global) -> Result<Items<MadeCopy>, AllocError>
         ensures { IfOk result (λ copies. (H : History) → Records self.now H → copies ≡ all_held H) }
     {
-        let copies = holders::all_held(alloc, self.made.as_slice(), self.held.as_slice())?;
+        let copies = holders::all_held(alloc, self.rows.as_slice())?;
         Ok(Items::from_vec(copies))
     }
 
@@ -160,12 +173,7 @@ impl Copies {
     ) -> Result<Items<MadeCopy>, AllocError>
         ensures { IfOk result (λ copies. (H : History) → Records self.now H → copies ≡ open_copies H endpoint) }
     {
-        let copies = fates::spooled_in(
-            alloc,
-            self.made.as_slice(),
-            self.closed.as_slice(),
-            endpoint,
-        )?;
+        let copies = fates::spooled_in(alloc, self.rows.as_slice(), endpoint)?;
         Ok(Items::from_vec(copies))
     }
 
@@ -177,13 +185,7 @@ impl Copies {
     ) -> Result<Items<MadeCopy>, AllocError>
         ensures { IfOk result (λ copies. (H : History) → Records self.now H → copies ≡ free_copies H endpoint) }
     {
-        let copies = holders::free_in(
-            alloc,
-            self.made.as_slice(),
-            self.closed.as_slice(),
-            self.held.as_slice(),
-            endpoint,
-        )?;
+        let copies = holders::free_in(alloc, self.rows.as_slice(), endpoint)?;
         Ok(Items::from_vec(copies))
     }
 
@@ -193,12 +195,7 @@ impl Copies {
     pub fn first_due(&self, moment: Moment) -> Option<CopyNo>
         ensures { (H : History) → Records self.now H → result ≡ first_due H moment }
     {
-        due::first_due(
-            self.made.as_slice(),
-            self.closed.as_slice(),
-            self.held.as_slice(),
-            moment,
-        )
+        due::first_due(self.rows.as_slice(), moment)
     }
 
     /// The first `most` copies that are due, in order of deadline and then of number.
@@ -210,14 +207,7 @@ impl Copies {
     ) -> Result<Items<MadeCopy>, AllocError>
         ensures { IfOk result (λ copies. (H : History) → Records self.now H → copies ≡ take most (due_copies H moment)) }
     {
-        let copies = due::due(
-            alloc,
-            self.made.as_slice(),
-            self.closed.as_slice(),
-            self.held.as_slice(),
-            moment,
-            most,
-        )?;
+        let copies = due::due(alloc, self.rows.as_slice(), moment, most)?;
         Ok(Items::from_vec(copies))
     }
 
@@ -231,14 +221,7 @@ impl Copies {
     ) -> Result<Items<MadeCopy>, AllocError>
         ensures { IfOk result (λ copies. (H : History) → Records self.now H → copies ≡ waiting_copies H endpoint moment) }
     {
-        let copies = holders::waiting(
-            alloc,
-            self.made.as_slice(),
-            self.closed.as_slice(),
-            self.held.as_slice(),
-            endpoint,
-            moment,
-        )?;
+        let copies = holders::waiting(alloc, self.rows.as_slice(), endpoint, moment)?;
         Ok(Items::from_vec(copies))
     }
 }

@@ -1,13 +1,14 @@
-use Rattle.std.proofs.Common.{◌&&◌, ◌∙◌, not, sym}
-use Rattle.sp_copies.specs.History.{has_come, is_closed, is_held}
+use Rattle.std.proofs.Common.{◌&&◌, ◌∙◌, ap, sym, take}
+use Rattle.sp_copies.specs.Due.{placed}
+use Rattle.sp_copies.specs.History.{has_come}
+use Rattle.sp_copies.specs.Rows.{is_free_row}
 use Rattle.sp_copies.proofs.Deadlines.{firsts-more}
 use Rattle.sp_copies.proofs.due.due.Goals as goal
 
-pub loop-copy-preserved : goal.loop-copy-preserved
-loop-copy-preserved c =
+pub loop-row-preserved : goal.loop-row-preserved
+loop-row-preserved c =
     c.in_ok-place.ensures
-    ∙ firsts-more
-    (λ x. not (is_closed c.args.closed.now x.number) && not
-    (is_held c.args.held.now x.number) && has_come x.deadline c.args.moment)
-    c.args.made.now c.loop-copy.copy-index c.args.most c.copy-item.result c.loop-copy.first.items c.loop-copy-test.true c.copy-item.is
-    (sym c.is_due.ensures ∙ c.if-not-is_due.false) c.loop-copy.invariant
+    ∙ (ap (λ d. take c.args.most (placed d c.loop-row.first.items)) c.made.ensures
+    ∙ firsts-more (λ r. is_free_row r && has_come r.deadline c.args.moment)
+    c.args.rows.now c.loop-row.row-index c.args.most c.row-item.result c.loop-row.first.items c.loop-row-test.true
+    c.row-item.is (sym c.is_due.ensures ∙ c.if-not-is_due.false) c.loop-row.invariant)

@@ -1,10 +1,10 @@
-use Rattle.std.proofs.Common.{◌≡◌, ◌&&◌, not, take}
-use Rattle.sp_copies.specs.History.{has_come, is_closed, is_held}
+use Rattle.std.proofs.Common.{◌≡◌, ◌&&◌, take}
+use Rattle.sp_copies.specs.History.{has_come}
+use Rattle.sp_copies.specs.Rows.{is_free_row}
 use Rattle.sp_copies.proofs.Deadlines.{ordered_to}
 use Rattle.sp_copies.proofs.due.due.Given as goal
 
 -- the first of the copies so far
-abbrev pub invariant-loop-copy : goal.invariant-loop-copy
-invariant-loop-copy l =
-    l.first.items ≡ take l.most (ordered_to (λ c. not (is_closed l.closed c.number) && not
-    (is_held l.held c.number) && has_come c.deadline l.moment) l.made l.copy-index)
+abbrev pub invariant-loop-row : goal.invariant-loop-row
+invariant-loop-row l =
+    l.first.items ≡ take l.most (ordered_to (λ r. is_free_row r && has_come r.deadline l.moment) l.rows l.row-index)

@@ -1,6 +1,5 @@
-use Rattle.std.proofs.Common.{◌≤◌, ◌+◌, ◌^◌, [], arith}
+use Rattle.std.proofs.Common.{[], arith}
 use Rattle.std.proofs.lemmas.List.Elements.{All-push}
-use Rattle.sp_copies.specs.declared.made.Share.{Share}
 use Rattle.sp_copies.specs.History.{empty_history}
 use Rattle.sp_copies.proofs.Shares.{Fits}
 use Rattle.sp_copies.proofs.tests.a_copy_that_is_not_spooled_is_closed_at_once.Goals as goal

@@ -1,42 +1,53 @@
-use Rattle.std.proofs.Common.{◌≡◌, ℕ, true, arith}
-use Rattle.sp_copies.specs.History.{History, is_free, with_held}
+use Rattle.std.proofs.Common.{◌≡◌, true, false, sym, ◌∙◌}
+use Rattle.sp_copies.specs.History.{with_held}
 use Rattle.sp_copies.specs.Inside.{kept_in}
+use Rattle.sp_copies.proofs.Answered.{free_told, never_free, row_absent, row_there}
 use Rattle.sp_copies.proofs.Changes.{held_stands}
-use Rattle.sp_copies.proofs.KeptLemmas.{kept_of, of_each, of_own}
-use Rattle.sp_copies.proofs.Room.{free-held}
+use Rattle.sp_copies.proofs.InPlace.{length-with}
+use Rattle.sp_copies.proofs.KeptLemmas.{kept_of}
 use Rattle.sp_copies.proofs.copies.Copies.hold.Goals as goal
-
-abbrev IsFree : ℕ → History → Type 0
-IsFree copy H = is_free H copy ≡ true
-
-pub add-requires : goal.add-requires
-add-requires c =
-    let G = c.self.invariant.history in
-    let a = c.args in
-    let free_now = of_own (IsFree a.copy)
-    (kept_in c.self.inside) a.self.now c.self.view_is c.requires.free G c.self.invariant.stands in
-    omega (arith, free-held G a.copy a.flow free_now, c.self.invariant.to_hold)
 
 pub invariant_of-self : goal.invariant_of-self
 invariant_of-self c =
     let k = kept_in c.self.inside in
     let G = c.self.invariant.history in
     let s = c.self.invariant.stands in
-    let a = c.args in
-    let free_now = of_own (IsFree a.copy) k a.self.now c.self.view_is c.requires.free G s in
+    let copy = c.args.copy in
+    let row = c.in-Some.row in
+    let at = row_there k G copy c.get.result row s c.get.ensures c.in-Some.is in
+    let F = c.requires.free.0 in
+    let f = kept_of k c.args.self.now c.self.view_is F c.requires.free.1 in
+    let of_it = row_there k F copy c.get.result row f c.get.ensures c.in-Some.is in
+    let free_now = sym (free_told G copy row at) ∙ (free_told F copy row of_it ∙ c.requires.free.2) in
+    let same = length-with c.held.result k.rows in
     record {
-      history = with_held a.copy a.flow G;
-      stands = rw (c.add.ensures.items, c.count_attempt.ensures.items) (held_stands k a.copy a.flow _ G s free_now);
-      to_make = c.self.invariant.to_make;
-      to_count = omega (arith, c.count_attempt.ensures.room, c.self.invariant.to_count);
+      history = with_held copy c.args.flow G;
+      stands = rw (c.set.ensures.rows, c.held.ensures) (held_stands k copy c.args.flow _ row G s at free_now);
+      follows = rw (c.set.ensures.rows, c.set.ensures.first, same) c.self.invariant.follows;
+      used = c.self.invariant.used;
+      to_make = rw c.set.ensures.room c.self.invariant.to_make;
+      to_total = c.self.invariant.to_total;
       to_close = c.self.invariant.to_close;
-      to_hold = omega (arith, free-held G a.copy a.flow free_now, c.self.invariant.to_hold, c.add.ensures.room);
     }
 
-pub returns-clause-held : goal.returns-clause-held
-returns-clause-held c H r =
+pub returns-in-Some-clause-held : goal.returns-in-Some-clause-held
+returns-in-Some-clause-held c H r =
     let k = kept_in c.self.inside in
-    let a = c.args in
-    let free_now = of_each (IsFree a.copy) a.self.now c.requires.free H r in
-    rw (c.add.ensures.items, c.count_attempt.ensures.items)
-    (held_stands k a.copy a.flow _ H (kept_of k a.self.now c.self.view_is H r) free_now)
+    let copy = c.args.copy in
+    let row = c.in-Some.row in
+    let s = kept_of k c.args.self.now c.self.view_is H r in
+    let at = row_there k H copy c.get.result row s c.get.ensures c.in-Some.is in
+    let F = c.requires.free.0 in
+    let f = kept_of k c.args.self.now c.self.view_is F c.requires.free.1 in
+    let of_it = row_there k F copy c.get.result row f c.get.ensures c.in-Some.is in
+    let free_now = sym (free_told H copy row at) ∙ (free_told F copy row of_it ∙ c.requires.free.2) in
+    rw (c.set.ensures.rows, c.held.ensures) (held_stands k copy c.args.flow _ row H s at free_now)
+
+pub returns-in_default-clause-held : goal.returns-in_default-clause-held
+returns-in_default-clause-held c H r =
+    let k = kept_in c.self.inside in
+    let G = c.requires.free.0 in
+    let g = kept_of k c.args.self.now c.self.view_is G c.requires.free.1 in
+    let none = row_absent k G c.args.copy c.get.result g c.get.ensures c.in_default.is in
+    let never : true ≡ false = sym c.requires.free.2 ∙ never_free G c.args.copy none in
+    absurd (cc)

@@ -1,6 +1,6 @@
 use Rattle.std.proofs.Common.{◌≤◌, ◌+◌, take, length}
 use Rattle.sp_copies.specs.History.{History, all_shared}
-use Rattle.sp_copies.specs.Kept.{Kept, Records}
+use Rattle.sp_copies.specs.Kept.{Records}
 use Rattle.sp_copies.proofs.copies.Copies.publish.Given as goal
 
 -- the copies so far are made, and there is room for the others

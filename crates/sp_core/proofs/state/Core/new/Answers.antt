@@ -32,3 +32,7 @@ invariant_of-result-2 c =
         ledger = let first = empty_sound _ _ next most.5 (omega (arith, c.requires.least.2)) most.2 in record { sound = first.sound; unit = first.unit };
       };
     }
+
+pub returns : goal.returns
+unfolding invariant_of-result-2
+returns c = (invariant_of-result-2 c).stands

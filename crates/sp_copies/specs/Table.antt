@@ -1,0 +1,42 @@
+-- Rows of copies whose numbers follow one another.
+use Rattle.std.specs.Prelude.{◌≡◌, ◌==◌, ◌+◌, ◌-◌, ℕ, List, [], ◌∷◌, Option, Some, None, find, length, map, nat_lt, if◌then◌else◌}
+use Rattle.sp_copies.specs.declared.made.MadeCopy.{MadeCopy}
+use Rattle.sp_copies.specs.declared.made.Row.{Row}
+
+-- the rows, the number of the first, and the room that is reserved for more
+pub record Tabled : Type 0 where
+  pub rows : List Row
+  pub first : ℕ
+  pub room : ℕ
+
+-- the numbers are those from the first on, one after another
+abbrev pub Follow : ℕ → List Row → Type 0
+Follow first [] = Unit {0}
+Follow first (r ∷ rows) = (r.number ≡ first) × Follow (first + 1) rows
+
+-- the row of a copy that was just made
+abbrev pub new_row : MadeCopy → Row
+new_row c = record {
+  number = c.number;
+  endpoint = c.endpoint;
+  message = c.message;
+  size = c.size;
+  origin = c.origin;
+  deadline = c.deadline;
+  partition = c.partition;
+  attempts = 0;
+  holder = None;
+  closing = None;
+}
+
+-- the row of a copy, where it was made
+abbrev pub row_at : List Row → ℕ → Option Row
+row_at rows copy = find (λ r. r.number == copy) rows
+
+-- where the numbers follow on the first, the place of a copy's row
+abbrev pub place_in : List Row → ℕ → ℕ → Option ℕ
+place_in rows first copy = if nat_lt copy first then None else if nat_lt (copy - first) (length rows) then Some (copy - first) else None
+
+-- the rows, with one in the place of the one of its copy
+abbrev pub with_row : Row → List Row → List Row
+with_row row rows = map (λ (r : Row). if r.number == row.number then row else r) rows

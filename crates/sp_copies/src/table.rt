@@ -1,0 +1,124 @@
+ghost use Rattle.std.specs.Prelude.{◌≡◌, ◌≤◌, ◌<◌, ◌+◌, ◌++◌, ◌∷◌, [], length, OnOk};
+ghost use Rattle.sp_copies.specs.Table.{Follow, new_row, place_in, row_at, with_row};
+
+use crate::made::{MadeCopy, Row};
+use sp_base::number::CopyNo;
+use std::alloc::{AllocError, Global};
+use std::marker::Model;
+
+/// The rows of copies by number. The numbers follow one another, so a row is found at the place
+/// that its number gives, with no search and no index.
+#[derive(Drop)]
+pub struct Table {
+    rows: Vec<Row>,
+    first: u64,
+}
+
+impl Model for Table {
+    ghost use Rattle.std.specs.Prelude.{◌-◌, vec_len};
+    ghost use Rattle.std.specs.Vec.{vec_capacity};
+    ghost use Rattle.sp_copies.specs.Table.{Follow, Tabled};
+
+    ghost Value = { Tabled };
+
+    ghost view = { λ t. record { rows = t.rows.items; first = t.first; room = vec_capacity t.rows - vec_len t.rows } };
+
+    ghost invariant = { λ t. Follow t.first t.rows.items };
+}
+
+impl Table {
+    /// No rows, where the first one has this number.
+    pub fn new(alloc: Global, first: u64) -> Table
+        ensures rows { result.rows ≡ [] }
+        ensures first { result.first ≡ first }
+    {
+        Table {
+            rows: Vec::new(alloc),
+            first,
+        }
+    }
+
+    /// The rows in order of number.
+    pub fn as_slice(&self) -> &[Row]
+        ensures { result.now ≡ self.now.rows }
+    {
+        self.rows.as_slice()
+    }
+
+    /// How many rows there are.
+    pub fn len(&self) -> usize
+        ensures { result ≡ length self.now.rows }
+    {
+        self.rows.len()
+    }
+
+    /// Makes room for `more` rows. Without memory the rows stay as they were.
+    pub fn reserve(&mut self, more: usize) -> Result<(), AllocError>
+        ensures rows { self.new.rows ≡ self.old.rows }
+        ensures first { self.new.first ≡ self.old.first }
+        ensures room { OnOk result (more ≤ self.new.room) }
+        ensures kept { self.old.room ≤ self.new.room }
+    {
+        self.rows.reserve(more)
+    }
+
+    /// The row of a copy, where it was made.
+    pub fn get(&self, copy: CopyNo) -> Option<Row>
+        ensures { result ≡ row_at self.now.rows copy }
+    {
+        match self.place_of(copy) {
+            Some(place) => Some(self.rows[place]),
+            None => None,
+        }
+    }
+
+    // The place of a copy's row, where it was made.
+    fn place_of(&self, copy: CopyNo) -> Option<usize>
+        ensures { result ≡ place_in self.now.rows self.now.first copy }
+    {
+        let place = copy.value().checked_sub(self.first)? as usize;
+        if place < self.rows.len() {
+            Some(place)
+        } else {
+            None
+        }
+    }
+
+    /// Appends the row of a copy that was just made and has the next number, where room is reserved,
+    /// and takes no memory.
+    pub fn add(&mut self, copy: MadeCopy)
+        requires room { 0 < self.old.room }
+        requires next { copy.number ≡ self.old.first + length self.old.rows }
+        ensures rows { self.new.rows ≡ self.old.rows ++ new_row copy ∷ [] }
+        ensures first { self.new.first ≡ self.old.first }
+        ensures room { self.old.room ≤ self.new.room + 1 }
+    {
+        let pushed = self.rows.push(Row {
+            number: copy.number,
+            endpoint: copy.endpoint,
+            message: copy.message,
+            size: copy.size,
+            origin: copy.origin,
+            deadline: copy.deadline,
+            partition: copy.partition,
+            attempts: 0,
+            holder: None,
+            closing: None,
+        });
+        match pushed {
+            Ok(()) => {}
+            Err(_) => unreachable!(),
+        }
+    }
+
+    /// Puts a row in the place of the one of its copy, if there is one, and takes no memory.
+    pub fn set(&mut self, row: Row)
+        ensures rows { self.new.rows ≡ with_row row self.old.rows }
+        ensures first { self.new.first ≡ self.old.first }
+        ensures room { self.new.room ≡ self.old.room }
+    {
+        if let Some(place) = self.place_of(row.number) {
+            self.rows[place] = row;
+        }
+    }
+}
