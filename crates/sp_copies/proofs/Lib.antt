@@ -15,9 +15,11 @@ pub mod Marks
 pub mod OfHistory
 pub mod Others
 pub mod Places
+pub mod Rest
 pub mod ReturnedSound
 pub mod Room
 pub mod Searches
+pub mod Settled
 pub mod Shares
 pub mod Tallied
 pub mod Totals

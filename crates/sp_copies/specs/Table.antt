@@ -1,5 +1,5 @@
 -- Rows of copies whose numbers follow one another.
-use Rattle.std.specs.Prelude.{◌≡◌, ◌==◌, ◌+◌, ◌-◌, ℕ, List, [], ◌∷◌, Option, Some, None, find, length, map, nat_lt, if◌then◌else◌}
+use Rattle.std.specs.Prelude.{◌≡◌, ◌==◌, ◌≤◌, ◌+◌, ◌-◌, ◌&&◌, ◌++◌, ℕ, Bool, true, List, [], ◌∷◌, All, Option, Some, None, find, is_none, is_some, length, map, nat_lt, take, if◌then◌else◌}
 use Rattle.sp_copies.specs.declared.made.MadeCopy.{MadeCopy}
 use Rattle.sp_copies.specs.declared.made.Row.{Row}
 
@@ -13,6 +13,26 @@ pub record Tabled : Type 0 where
 abbrev pub Follow : ℕ → List Row → Type 0
 Follow first [] = Unit {0}
 Follow first (r ∷ rows) = (r.number ≡ first) × Follow (first + 1) rows
+
+-- whether a copy is closed, and no flow holds it
+abbrev pub is_done : Row → Bool
+is_done r = is_some r.closing && is_none r.holder
+
+-- so many rows from the front are done
+abbrev pub AreDone : List Row → ℕ → Type 0
+AreDone rows many = All (λ r. is_done r ≡ true) (take many rows)
+
+-- the numbers follow on the first, and so many rows from the front are done
+pub record IsTable (rows : List Row) (first many : ℕ) : Type 0 where
+  pub follow : Follow first rows
+  pub within : many ≤ length rows
+  pub done : AreDone rows many
+
+-- what is left of rows without some at the front that are done
+pub record IsRest (rows rest : List Row) : Type 0 where
+  pub front : List Row
+  pub all : front ++ rest ≡ rows
+  pub done : All (λ r. is_done r ≡ true) front
 
 -- the row of a copy that was just made
 abbrev pub new_row : MadeCopy → Row

@@ -1,5 +1,6 @@
 ghost use Rattle.std.specs.Prelude.{◌≡◌, ◌+◌, ◌-◌, ◌^◌, Some, None, min};
 ghost use Rattle.sp_copies.specs.Rows.{is_free_row, is_held_by_row, is_held_row, is_open_row, made_in};
+ghost use Rattle.sp_copies.specs.Table.{is_done};
 
 use sp_base::number::{CopyNo, EndpointNo, FlowNo, MessageNo, ReplayNo};
 
@@ -104,6 +105,13 @@ impl Row {
         ensures { result ≡ is_free_row self.now }
     {
         self.closing.is_none() && self.holder.is_none()
+    }
+
+    /// Whether it is closed, and no flow holds it.
+    pub fn is_done(&self) -> bool
+        ensures { result ≡ is_done self.now }
+    {
+        self.closing.is_some() && self.holder.is_none()
     }
 
     /// Whether this flow holds it.

@@ -1,5 +1,5 @@
 ghost use Rattle.std.specs.Prelude.{◌≡◌, ◌≤◌, ◌<◌, ◌+◌, ◌++◌, ◌∷◌, [], length, OnOk};
-ghost use Rattle.sp_copies.specs.Table.{Follow, new_row, place_in, row_at, with_row};
+ghost use Rattle.sp_copies.specs.Table.{AreDone, IsRest, new_row, place_in, row_at, with_row};
 
 use crate::made::{MadeCopy, Row};
 use sp_base::number::CopyNo;
@@ -7,23 +7,25 @@ use std::alloc::{AllocError, Global};
 use std::marker::Model;
 
 /// The rows of copies by number. The numbers follow one another, so a row is found at the place
-/// that its number gives, with no search and no index.
+/// that its number gives, with no search and no index. The leading rows that are done are counted,
+/// so who looks for spooled copies begins behind them.
 #[derive(Drop)]
 pub struct Table {
     rows: Vec<Row>,
     first: u64,
+    done: usize,
 }
 
 impl Model for Table {
     ghost use Rattle.std.specs.Prelude.{◌-◌, vec_len};
     ghost use Rattle.std.specs.Vec.{vec_capacity};
-    ghost use Rattle.sp_copies.specs.Table.{Follow, Tabled};
+    ghost use Rattle.sp_copies.specs.Table.{IsTable, Tabled};
 
     ghost Value = { Tabled };
 
     ghost view = { λ t. record { rows = t.rows.items; first = t.first; room = vec_capacity t.rows - vec_len t.rows } };
 
-    ghost invariant = { λ t. Follow t.first t.rows.items };
+    ghost invariant = { λ t. IsTable t.rows.items t.first t.done };
 }
 
 impl Table {
@@ -35,6 +37,7 @@ impl Table {
         Table {
             rows: Vec::new(alloc),
             first,
+            done: 0,
         }
     }
 
@@ -43,6 +46,13 @@ impl Table {
         ensures { result.now ≡ self.now.rows }
     {
         self.rows.as_slice()
+    }
+
+    /// The rows behind the leading ones that are done.
+    pub fn rest(&self) -> &[Row]
+        ensures { IsRest self.now.rows result.now }
+    {
+        &self.rows[self.done..]
     }
 
     /// How many rows there are.
@@ -119,6 +129,21 @@ impl Table {
     {
         if let Some(place) = self.place_of(row.number) {
             self.rows[place] = row;
+            self.done = first_undone(self.rows.as_slice(), self.done.min(place));
         }
     }
+}
+
+// The place of the first row that isn't done, where those before a place are; or the end.
+fn first_undone(rows: &[Row], from: usize) -> usize
+    requires within { from ≤ length rows.now }
+    requires done { AreDone rows.now from }
+    ensures within { result ≤ length rows.now }
+    ensures done { AreDone rows.now result }
+{
+    let mut at = from;
+    while at < rows.len() && rows[at].is_done() {
+        at += 1;
+    }
+    at
 }

@@ -23,7 +23,7 @@ impl Copies {
     pub fn count_spooled(&self, endpoint: Option<EndpointNo>) -> u64
         ensures { (H : History) → Records self.now H → result ≡ spooled_count H endpoint }
     {
-        counts::count_spooled(self.rows.as_slice(), endpoint) as u64
+        counts::count_spooled(self.rows.rest(), endpoint) as u64
     }
 
     /// How many of them were accepted.
@@ -72,6 +72,6 @@ impl Copies {
     fn used_in_all(&self) -> u64
         ensures { (H : History) → Records self.now H → result ≡ min (used_in H None) (2 ^ 64 - 1) }
     {
-        look::used_by_all(self.rows.as_slice())
+        look::used_by_all(self.rows.rest())
     }
 }

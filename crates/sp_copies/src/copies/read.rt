@@ -65,7 +65,7 @@ impl Copies {
     pub fn next_spooled(&self, endpoint: EndpointNo, after: CopyNo) -> Option<CopyNo>
         ensures { (H : History) → Records self.now H → result ≡ next_spooled H endpoint after }
     {
-        fates::next_spooled(self.rows.as_slice(), endpoint, after)
+        fates::next_spooled(self.rows.rest(), endpoint, after)
     }
 
     /// The bytes that an endpoint's spooled copies use.
@@ -90,7 +90,7 @@ impl Copies {
     pub fn holder(&self, endpoint: EndpointNo, partition: u64) -> Option<FlowNo>
         ensures { (H : History) → Records self.now H → result ≡ holder_in H endpoint partition }
     {
-        holders::holder_in(self.rows.as_slice(), endpoint, partition)
+        holders::holder_in(self.rows.rest(), endpoint, partition)
     }
 
     /// The flow that holds a copy.
@@ -127,7 +127,7 @@ impl Copies {
     pub fn held_by(&self, alloc: Global, flow: FlowNo) -> Result<Items<CopyNo>, AllocError>
         ensures { IfOk result (λ copies. (H : History) → Records self.now H → copies ≡ held_by H flow) }
     {
-        let copies = holders::held_by(alloc, self.rows.as_slice(), flow)?;
+        let copies = holders::held_by(alloc, self.rows.rest(), flow)?;
         Ok(Items::from_vec(copies))
     }
 
@@ -135,14 +135,14 @@ impl Copies {
     pub fn count_held_by(&self, flow: FlowNo) -> usize
         ensures { (H : History) → Records self.now H → result ≡ length (held_by H flow) }
     {
-        holders::count_held_by(self.rows.as_slice(), flow)
+        holders::count_held_by(self.rows.rest(), flow)
     }
 
     /// The same as they were made.
     pub fn held_copies(&self, alloc: Global, flow: FlowNo) -> Result<Items<MadeCopy>, AllocError>
         ensures { IfOk result (λ copies. (H : History) → Records self.now H → copies ≡ held_copies H flow) }
     {
-        let copies = holders::held_copies(alloc, self.rows.as_slice(), flow)?;
+        let copies = holders::held_copies(alloc, self.rows.rest(), flow)?;
         Ok(Items::from_vec(copies))
     }
 
@@ -150,7 +150,7 @@ impl Copies {
     pub fn all_held(&self, alloc: Global) -> Result<Items<MadeCopy>, AllocError>
         ensures { IfOk result (λ copies. (H : History) → Records self.now H → copies ≡ all_held H) }
     {
-        let copies = holders::all_held(alloc, self.rows.as_slice())?;
+        let copies = holders::all_held(alloc, self.rows.rest())?;
         Ok(Items::from_vec(copies))
     }
 
@@ -173,7 +173,7 @@ impl Copies {
     ) -> Result<Items<MadeCopy>, AllocError>
         ensures { IfOk result (λ copies. (H : History) → Records self.now H → copies ≡ open_copies H endpoint) }
     {
-        let copies = fates::spooled_in(alloc, self.rows.as_slice(), endpoint)?;
+        let copies = fates::spooled_in(alloc, self.rows.rest(), endpoint)?;
         Ok(Items::from_vec(copies))
     }
 
@@ -185,7 +185,7 @@ impl Copies {
     ) -> Result<Items<MadeCopy>, AllocError>
         ensures { IfOk result (λ copies. (H : History) → Records self.now H → copies ≡ free_copies H endpoint) }
     {
-        let copies = holders::free_in(alloc, self.rows.as_slice(), endpoint)?;
+        let copies = holders::free_in(alloc, self.rows.rest(), endpoint)?;
         Ok(Items::from_vec(copies))
     }
 
@@ -195,7 +195,7 @@ impl Copies {
     pub fn first_due(&self, moment: Moment) -> Option<CopyNo>
         ensures { (H : History) → Records self.now H → result ≡ first_due H moment }
     {
-        due::first_due(self.rows.as_slice(), moment)
+        due::first_due(self.rows.rest(), moment)
     }
 
     /// The first `most` copies that are due, in order of deadline and then of number.
@@ -207,7 +207,7 @@ impl Copies {
     ) -> Result<Items<MadeCopy>, AllocError>
         ensures { IfOk result (λ copies. (H : History) → Records self.now H → copies ≡ take most (due_copies H moment)) }
     {
-        let copies = due::due(alloc, self.rows.as_slice(), moment, most)?;
+        let copies = due::due(alloc, self.rows.rest(), moment, most)?;
         Ok(Items::from_vec(copies))
     }
 
@@ -221,7 +221,7 @@ impl Copies {
     ) -> Result<Items<MadeCopy>, AllocError>
         ensures { IfOk result (λ copies. (H : History) → Records self.now H → copies ≡ waiting_copies H endpoint moment) }
     {
-        let copies = holders::waiting(alloc, self.rows.as_slice(), endpoint, moment)?;
+        let copies = holders::waiting(alloc, self.rows.rest(), endpoint, moment)?;
         Ok(Items::from_vec(copies))
     }
 }

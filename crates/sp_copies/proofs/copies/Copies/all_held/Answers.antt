@@ -1,7 +1,8 @@
 use Rattle.std.proofs.Common.{◌∙◌}
 use Rattle.sp_copies.specs.History.{is_held}
 use Rattle.sp_copies.specs.Rows.{is_held_row}
-use Rattle.sp_copies.proofs.OfHistory.{held_there, kept_made}
+use Rattle.sp_copies.proofs.OfHistory.{held_there}
+use Rattle.sp_copies.proofs.Rest.{done_unheld, rest_made}
 use Rattle.sp_copies.specs.Inside.{kept_in}
 use Rattle.sp_copies.proofs.KeptLemmas.{kept_of}
 use Rattle.sp_copies.proofs.copies.Copies.all_held.Goals as goal
@@ -9,5 +10,5 @@ use Rattle.sp_copies.proofs.copies.Copies.all_held.Goals as goal
 pub returns : goal.returns
 returns c H r =
     let s = kept_of (kept_in c.self.inside) c.args.self.now c.self.view_is H r in
-    c.from_vec.ensures ∙ (c.in_ok-copies.ensures ∙ (rw (c.as_slice.ensures, s.rows)
-    (kept_made H is_held_row (λ d. is_held H.held d.number) (λ d. held_there H.held d.number))))
+    c.from_vec.ensures ∙ (c.in_ok-copies.ensures ∙ rest_made is_held_row done_unheld _ _ c.rest.ensures H s.rows
+    (λ d. is_held H.held d.number) (λ d. held_there H.held d.number))

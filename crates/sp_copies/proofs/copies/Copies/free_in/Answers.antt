@@ -2,7 +2,8 @@ use Rattle.std.proofs.Common.{◌≡◌, ◌==◌, ◌&&◌, ◌∙◌, Bool, tr
 use Rattle.sp_copies.specs.declared.made.MadeCopy.{MadeCopy}
 use Rattle.sp_copies.specs.History.{is_closed, is_held, is_open_in}
 use Rattle.sp_copies.specs.Rows.{is_free_row}
-use Rattle.sp_copies.proofs.OfHistory.{free_there, kept_made}
+use Rattle.sp_copies.proofs.OfHistory.{free_there}
+use Rattle.sp_copies.proofs.Rest.{done_taken, neither, rest_made}
 use Rattle.sp_copies.proofs.Searches.{filter-filter}
 use Rattle.sp_copies.specs.Inside.{kept_in}
 use Rattle.sp_copies.proofs.KeptLemmas.{kept_of}
@@ -24,8 +25,8 @@ returns c H r =
     let s = kept_of (kept_in c.self.inside) c.args.self.now c.self.view_is H r in
     let e = c.args.endpoint in
     let q = λ (d : MadeCopy). not (is_held H.held d.number) in
-    c.from_vec.ensures ∙ (c.in_ok-copies.ensures ∙ (rw (c.as_slice.ensures, s.rows)
-    (kept_made H (λ x. (x.endpoint == e) && is_free_row x) (λ d. q d && is_open_in H.closed e d)
-    (λ d. ap (λ b. (d.endpoint == e) && b) (free_there H d)
+    c.from_vec.ensures ∙ (c.in_ok-copies.ensures ∙ (rest_made (λ x. (x.endpoint == e) && is_free_row x)
+    (λ x h. neither (x.endpoint == e) (is_free_row x) (done_taken x h)) _ _ c.rest.ensures H s.rows
+    (λ d. q d && is_open_in H.closed e d) (λ d. ap (λ b. (d.endpoint == e) && b) (free_there H d)
     ∙ turned (d.endpoint == e) (not (is_closed H.closed d.number)) (not (is_held H.held d.number)))
-    ∙ sym (filter-filter {X = MadeCopy} q (is_open_in H.closed e) H.made))))
+    ∙ sym (filter-filter {X = MadeCopy} q (is_open_in H.closed e) H.made)))

@@ -10,7 +10,7 @@ returns-in-Some c =
     sym (rw (← c.self.view_is) at c.place_of.ensures) ∙ c.in-Some.is in
     let there = place_there t.rows.items t.first c.args.copy c.in-Some.place at in
     ap Some c.index.ensures ∙ rw (← c.self.view_is)
-    (found-from t.rows.items t.first c.in-Some.place c.args.copy c.index.result.now c.self.invariant there.number
+    (found-from t.rows.items t.first c.in-Some.place c.args.copy c.index.result.now c.self.invariant.follow there.number
     there.within)
 
 pub returns-in-None : goal.returns-in-None
@@ -18,4 +18,4 @@ returns-in-None c =
     let t = c.self.inside in
     let at : place_in t.rows.items t.first c.args.copy ≡ None =
     sym (rw (← c.self.view_is) at c.place_of.ensures) ∙ c.in-None.is in
-    rw (← c.self.view_is) (sym (found-nowhere t.rows.items t.first c.args.copy c.self.invariant at))
+    rw (← c.self.view_is) (sym (found-nowhere t.rows.items t.first c.args.copy c.self.invariant.follow at))
