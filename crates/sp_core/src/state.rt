@@ -20,13 +20,12 @@ use sp_base::moment::Moment;
 use sp_base::name::Name;
 use sp_base::number::{EndpointNo, FlowNo, MessageNo, ReplayNo, UnitNo};
 use sp_base::refusal::{Kind, Refusal};
-use sp_base::rows::Rows;
 use sp_copies::copies::Copies;
 use sp_endpoint::endpoint::Endpoint;
 use sp_endpoint::endpoints::Endpoints;
 use sp_event::request::Event;
 use sp_plan::asking::SPENT;
-use sp_plan::published::Published;
+use sp_plan::messages::Messages;
 use std::alloc::Global;
 use std::marker::Model;
 
@@ -44,7 +43,7 @@ mod tables;
 #[derive(Drop)]
 pub struct Core {
     endpoints: Endpoints,
-    messages: Rows<Published>,
+    messages: Messages,
     copies: Copies,
     flows: Flows,
     next_endpoint: EndpointNo,
@@ -76,7 +75,7 @@ impl Core {
     {
         Ok(Core {
             endpoints: Endpoints::new(alloc),
-            messages: Rows::new(alloc),
+            messages: Messages::new(alloc),
             copies: Copies::new(alloc, start.copy),
             flows: Flows::new(alloc, FlowNo::of(start.flow)),
             next_endpoint: EndpointNo::of(start.endpoint),
@@ -149,11 +148,11 @@ impl Core {
     }
 
     // What copies that end are decided on.
-    fn tables(&self) -> (&Endpoints, &Copies, &[Published])
+    fn tables(&self) -> (&Endpoints, &Copies, &Messages)
         ensures stands { IsCore self.now }
-        ensures tabled { (L : Ledger) → Stands self.now L → Tabled result.0.now.items result.1.now result.2.now L }
+        ensures tabled { (L : Ledger) → Stands self.now L → Tabled result.0.now.items result.1.now result.2.now.items L }
     {
-        (&self.endpoints, &self.copies, self.messages.as_slice())
+        (&self.endpoints, &self.copies, &self.messages)
     }
 
     fn later(&self, moment: Moment) -> Moment

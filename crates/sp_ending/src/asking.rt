@@ -9,7 +9,7 @@ use sp_copies::copies::Copies;
 use sp_copies::made::{MadeCopy, NewCopy, Origin};
 use sp_endpoint::endpoint::Endpoint;
 use sp_endpoint::endpoints::Endpoints;
-use sp_plan::published::{Published, find_message};
+use sp_plan::messages::Messages;
 use sp_plan::publishing::partition_for;
 use sp_settle::questions::{CopyFacts, is_last_attempt};
 
@@ -24,8 +24,8 @@ pub fn dead_queue<'a>(endpoints: &'a Endpoints, copy: &MadeCopy) -> Option<&'a E
 }
 
 /// What decides of a copy itself how it ends.
-pub fn facts_of(messages: &[Published], copy: &MadeCopy) -> CopyFacts
-    ensures { (L : Ledger) → messages.now ≡ L.messages → result ≡ facts_of L copy.now }
+pub fn facts_of(messages: &Messages, copy: &MadeCopy) -> CopyFacts
+    ensures { (L : Ledger) → messages.now.items ≡ L.messages → result ≡ facts_of L copy.now }
 {
     CopyFacts {
         eligible: is_eligible(messages, copy),
@@ -35,18 +35,18 @@ pub fn facts_of(messages: &[Published], copy: &MadeCopy) -> CopyFacts
     }
 }
 
-fn is_eligible(messages: &[Published], copy: &MadeCopy) -> bool
-    ensures { (L : Ledger) → messages.now ≡ L.messages → result ≡ is_eligible L copy.now }
+fn is_eligible(messages: &Messages, copy: &MadeCopy) -> bool
+    ensures { (L : Ledger) → messages.now.items ≡ L.messages → result ≡ is_eligible L copy.now }
 {
-    match find_message(messages, copy.message) {
+    match messages.find(copy.message) {
         None => false,
         Some(published) => published.message.eligible,
     }
 }
 
 /// The copy of the same message that is made in a queue where a copy is moved: it has no deadline.
-pub fn moved_copy(messages: &[Published], copy: &MadeCopy, queue: &Endpoint) -> NewCopy
-    ensures value { (L : Ledger) → messages.now ≡ L.messages → result ≡ moved_copy L copy.now queue.now }
+pub fn moved_copy(messages: &Messages, copy: &MadeCopy, queue: &Endpoint) -> NewCopy
+    ensures value { (L : Ledger) → messages.now.items ≡ L.messages → result ≡ moved_copy L copy.now queue.now }
     ensures size { result.size ≡ copy.now.size }
 {
     NewCopy {
@@ -59,10 +59,10 @@ pub fn moved_copy(messages: &[Published], copy: &MadeCopy, queue: &Endpoint) -> 
     }
 }
 
-fn partition_in(messages: &[Published], copy: &MadeCopy, queue: &Endpoint) -> u64
-    ensures { (L : Ledger) → messages.now ≡ L.messages → result ≡ partition_in L copy.now queue.now.attributes }
+fn partition_in(messages: &Messages, copy: &MadeCopy, queue: &Endpoint) -> u64
+    ensures { (L : Ledger) → messages.now.items ≡ L.messages → result ≡ partition_in L copy.now queue.now.attributes }
 {
-    match find_message(messages, copy.message) {
+    match messages.find(copy.message) {
         None => 0,
         Some(published) => {
             partition_for(&queue.attributes, &published.message, published.number)

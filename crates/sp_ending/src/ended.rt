@@ -11,7 +11,7 @@ use sp_copies::made::MadeCopy;
 use sp_endpoint::endpoints::Endpoints;
 use sp_event::answer::CopyFate;
 use sp_plan::change::Change;
-use sp_plan::published::Published;
+use sp_plan::messages::Messages;
 use sp_settle::questions::Reason;
 use std::alloc::{AllocError, Global};
 use std::marker::Model;
@@ -50,14 +50,14 @@ pub fn all_ended(
     alloc: Global,
     endpoints: &Endpoints,
     copies: &Copies,
-    messages: &[Published],
+    messages: &Messages,
     why: Reason,
     list: &[MadeCopy],
 ) -> Result<Ended, AllocError>
-    requires { (L : Ledger) × Tabled endpoints.now.items copies.now messages.now L × MayAll MayEnd list.now L }
-    ensures changes { IfOk result (λ ended. (L : Ledger) → Tabled endpoints.now.items copies.now messages.now L → MayAll MayEnd list.now L →
+    requires { (L : Ledger) × Tabled endpoints.now.items copies.now messages.now.items L × MayAll MayEnd list.now L }
+    ensures changes { IfOk result (λ ended. (L : Ledger) → Tabled endpoints.now.items copies.now messages.now.items L → MayAll MayEnd list.now L →
         ended.changes ≡ one_by_one (ending why) list.now L) }
-    ensures told { IfOk result (λ ended. (L : Ledger) → Tabled endpoints.now.items copies.now messages.now L → MayAll MayEnd list.now L →
+    ensures told { IfOk result (λ ended. (L : Ledger) → Tabled endpoints.now.items copies.now messages.now.items L → MayAll MayEnd list.now L →
         ended.told ≡ all_told (one_by_one (ending why) list.now L) L) }
 {
     let mut draft = Draft::new(alloc, copies.next());
@@ -73,13 +73,13 @@ pub fn all_given_back(
     alloc: Global,
     endpoints: &Endpoints,
     copies: &Copies,
-    messages: &[Published],
+    messages: &Messages,
     list: &[MadeCopy],
 ) -> Result<Ended, AllocError>
-    requires { (L : Ledger) × Tabled endpoints.now.items copies.now messages.now L × MayAll MayReturn list.now L }
-    ensures changes { IfOk result (λ ended. (L : Ledger) → Tabled endpoints.now.items copies.now messages.now L → MayAll MayReturn list.now L →
+    requires { (L : Ledger) × Tabled endpoints.now.items copies.now messages.now.items L × MayAll MayReturn list.now L }
+    ensures changes { IfOk result (λ ended. (L : Ledger) → Tabled endpoints.now.items copies.now messages.now.items L → MayAll MayReturn list.now L →
         ended.changes ≡ one_by_one returning list.now L) }
-    ensures told { IfOk result (λ ended. (L : Ledger) → Tabled endpoints.now.items copies.now messages.now L → MayAll MayReturn list.now L →
+    ensures told { IfOk result (λ ended. (L : Ledger) → Tabled endpoints.now.items copies.now messages.now.items L → MayAll MayReturn list.now L →
         ended.told ≡ all_told (one_by_one returning list.now L) L) }
 {
     let mut draft = Draft::new(alloc, copies.next());

@@ -17,7 +17,7 @@ use sp_copies::copies::Copies;
 use sp_copies::made::MadeCopy;
 use sp_endpoint::endpoint::Endpoint;
 use sp_endpoint::endpoints::Endpoints;
-use sp_plan::published::Published;
+use sp_plan::messages::Messages;
 use sp_settle::questions::{Ending, Reason, Target, end};
 use std::alloc::AllocError;
 
@@ -27,13 +27,13 @@ impl Draft {
         &mut self,
         endpoints: &Endpoints,
         copies: &Copies,
-        messages: &[Published],
+        messages: &Messages,
         why: Reason,
         copy: &MadeCopy,
     ) -> Result<(), AllocError>
-        requires may { (L : Ledger) × (K : Ledger) × Tabled endpoints.now.items copies.now messages.now L × Reaches L K self.old × MayEnd K copy.now }
+        requires may { (L : Ledger) × (K : Ledger) × Tabled endpoints.now.items copies.now messages.now.items L × Reaches L K self.old × MayEnd K copy.now }
         requires place { HasPlace copy.now self.old }
-        ensures { OnOk result ((L : Ledger) (K : Ledger) → Tabled endpoints.now.items copies.now messages.now L → Reaches L K self.old →
+        ensures { OnOk result ((L : Ledger) (K : Ledger) → Tabled endpoints.now.items copies.now messages.now.items L → Reaches L K self.old →
             self.new ≡ and_ended why copy.now K self.old) }
     {
         let queue = dead_queue(endpoints, copy);
@@ -48,12 +48,12 @@ impl Draft {
         &mut self,
         endpoints: &Endpoints,
         copies: &Copies,
-        messages: &[Published],
+        messages: &Messages,
         copy: &MadeCopy,
     ) -> Result<(), AllocError>
-        requires may { (L : Ledger) × (K : Ledger) × Tabled endpoints.now.items copies.now messages.now L × Reaches L K self.old × MayReturn K copy.now }
+        requires may { (L : Ledger) × (K : Ledger) × Tabled endpoints.now.items copies.now messages.now.items L × Reaches L K self.old × MayReturn K copy.now }
         requires place { HasPlace copy.now self.old }
-        ensures { OnOk result ((L : Ledger) (K : Ledger) → Tabled endpoints.now.items copies.now messages.now L → Reaches L K self.old →
+        ensures { OnOk result ((L : Ledger) (K : Ledger) → Tabled endpoints.now.items copies.now messages.now.items L → Reaches L K self.old →
             self.new ≡ and_returned copy.now K self.old) }
     {
         if has_had_last(endpoints, copies, copy) {
@@ -71,13 +71,13 @@ impl Draft {
     // A copy is moved to the queue, where there is one.
     fn move_into(
         &mut self,
-        messages: &[Published],
+        messages: &Messages,
         copy: &MadeCopy,
         queue: Option<&Endpoint>,
     ) -> Result<(), AllocError>
         requires place { HasPlace copy.now self.old }
         requires next { self.old.next ≤ 2 ^ 62 }
-        ensures { OnOk result ((K : Ledger) → messages.now ≡ K.messages →
+        ensures { OnOk result ((K : Ledger) → messages.now.items ≡ K.messages →
             self.new ≡ with_ended Move (option_copied queue.entry) copy.now K self.old) }
     {
         match queue {
@@ -90,13 +90,13 @@ impl Draft {
     fn how(
         &self,
         copies: &Copies,
-        messages: &[Published],
+        messages: &Messages,
         why: Reason,
         copy: &MadeCopy,
         queue: Option<&Endpoint>,
     ) -> Ending
         requires kept { (L : Ledger) × (K : Ledger) × Records copies.now L.copies × Reaches L K self.now }
-        ensures { (L : Ledger) (K : Ledger) → Records copies.now L.copies → messages.now ≡ K.messages → Reaches L K self.now →
+        ensures { (L : Ledger) (K : Ledger) → Records copies.now L.copies → messages.now.items ≡ K.messages → Reaches L K self.now →
             result ≡ end_of why (facts_of K copy.now) (option_map (target_of K) (option_copied queue.entry)) }
     {
         let facts = facts_of(messages, copy);

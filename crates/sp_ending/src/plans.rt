@@ -23,8 +23,8 @@ use sp_endpoint::endpoints::Endpoints;
 use sp_event::answer::{CopyFate, Reply};
 use sp_event::request::Outcome;
 use sp_plan::change::Change;
+use sp_plan::messages::Messages;
 use sp_plan::plan::Plan;
-use sp_plan::published::Published;
 use sp_settle::questions::Reason;
 use std::alloc::{AllocError, Global};
 use std::slice;
@@ -34,11 +34,11 @@ pub fn expiry_plan(
     alloc: Global,
     endpoints: &Endpoints,
     copies: &Copies,
-    messages: &[Published],
+    messages: &Messages,
     due: &[MadeCopy],
 ) -> Result<Plan, AllocError>
-    requires { (L : Ledger) × Tabled endpoints.now.items copies.now messages.now L × MayAll MayEnd due.now L }
-    ensures { IfOk result (λ plan. (L : Ledger) → Tabled endpoints.now.items copies.now messages.now L → MayAll MayEnd due.now L →
+    requires { (L : Ledger) × Tabled endpoints.now.items copies.now messages.now.items L × MayAll MayEnd due.now L }
+    ensures { IfOk result (λ plan. (L : Ledger) → Tabled endpoints.now.items copies.now messages.now.items L → MayAll MayEnd due.now L →
         plan ≡ expiry_plan due.now L) }
 {
     let ended = all_ended(alloc, endpoints, copies, messages, Reason::Expired, due)?;
@@ -54,12 +54,12 @@ pub fn unbind_plan(
     alloc: Global,
     endpoints: &Endpoints,
     copies: &Copies,
-    messages: &[Published],
+    messages: &Messages,
     flow: FlowNo,
     held: &[MadeCopy],
 ) -> Result<Plan, AllocError>
-    requires { (L : Ledger) × Tabled endpoints.now.items copies.now messages.now L × MayAll MayReturn held.now L }
-    ensures { IfOk result (λ plan. (L : Ledger) → Tabled endpoints.now.items copies.now messages.now L → MayAll MayReturn held.now L →
+    requires { (L : Ledger) × Tabled endpoints.now.items copies.now messages.now.items L × MayAll MayReturn held.now L }
+    ensures { IfOk result (λ plan. (L : Ledger) → Tabled endpoints.now.items copies.now messages.now.items L → MayAll MayReturn held.now L →
         plan ≡ unbind_plan flow held.now L) }
 {
     let ended = all_given_back(alloc, endpoints, copies, messages, held)?;
@@ -81,11 +81,11 @@ pub fn restart_plan(
     alloc: Global,
     endpoints: &Endpoints,
     copies: &Copies,
-    messages: &[Published],
+    messages: &Messages,
     held: &[MadeCopy],
 ) -> Result<Plan, AllocError>
-    requires { (L : Ledger) × Tabled endpoints.now.items copies.now messages.now L × MayAll MayReturn held.now L }
-    ensures { IfOk result (λ plan. (L : Ledger) → Tabled endpoints.now.items copies.now messages.now L → MayAll MayReturn held.now L →
+    requires { (L : Ledger) × Tabled endpoints.now.items copies.now messages.now.items L × MayAll MayReturn held.now L }
+    ensures { IfOk result (λ plan. (L : Ledger) → Tabled endpoints.now.items copies.now messages.now.items L → MayAll MayReturn held.now L →
         plan ≡ restart_plan held.now L) }
 {
     let returned = all_given_back(alloc, endpoints, copies, messages, held)?;
@@ -105,12 +105,12 @@ pub fn settle_plan(
     alloc: Global,
     endpoints: &Endpoints,
     copies: &Copies,
-    messages: &[Published],
+    messages: &Messages,
     outcome: Outcome,
     held: &MadeCopy,
 ) -> Result<Plan, AllocError>
-    requires { (L : Ledger) × Tabled endpoints.now.items copies.now messages.now L × MayAll MayReturn (held.now ∷ []) L }
-    ensures { IfOk result (λ plan. (L : Ledger) → Tabled endpoints.now.items copies.now messages.now L → MayAll MayReturn (held.now ∷ []) L →
+    requires { (L : Ledger) × Tabled endpoints.now.items copies.now messages.now.items L × MayAll MayReturn (held.now ∷ []) L }
+    ensures { IfOk result (λ plan. (L : Ledger) → Tabled endpoints.now.items copies.now messages.now.items L → MayAll MayReturn (held.now ∷ []) L →
         plan ≡ settle_plan outcome held.now L) }
 {
     let ended = settled(alloc, endpoints, copies, messages, outcome, held)?;
@@ -129,14 +129,14 @@ fn settled(
     alloc: Global,
     endpoints: &Endpoints,
     copies: &Copies,
-    messages: &[Published],
+    messages: &Messages,
     outcome: Outcome,
     held: &MadeCopy,
 ) -> Result<Ended, AllocError>
-    requires { (L : Ledger) × Tabled endpoints.now.items copies.now messages.now L × MayAll MayReturn (held.now ∷ []) L }
-    ensures changes { IfOk result (λ ended. (L : Ledger) → Tabled endpoints.now.items copies.now messages.now L → MayAll MayReturn (held.now ∷ []) L →
+    requires { (L : Ledger) × Tabled endpoints.now.items copies.now messages.now.items L × MayAll MayReturn (held.now ∷ []) L }
+    ensures changes { IfOk result (λ ended. (L : Ledger) → Tabled endpoints.now.items copies.now messages.now.items L → MayAll MayReturn (held.now ∷ []) L →
         ended.changes ≡ settling outcome held.now L ∷ []) }
-    ensures fate { IfOk result (λ ended. (L : Ledger) → Tabled endpoints.now.items copies.now messages.now L → MayAll MayReturn (held.now ∷ []) L →
+    ensures fate { IfOk result (λ ended. (L : Ledger) → Tabled endpoints.now.items copies.now messages.now.items L → MayAll MayReturn (held.now ∷ []) L →
         first_fate ended.told ≡ fate_by (settling outcome held.now L) L) }
 {
     let one = slice::from_ref(held);

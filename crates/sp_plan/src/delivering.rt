@@ -5,7 +5,8 @@ ghost use Rattle.sp_ledger.specs.Ledger.{Ledger, message_of};
 ghost use Rattle.sp_ledger.specs.OnFlows.{delivered, deliveries};
 ghost use Rattle.std.specs.Prelude.{◌≡◌, ◌≤◌, ◌^◌, All, IfOk, option_map};
 
-use crate::published::{Published, delivered, find_message};
+use crate::messages::Messages;
+use crate::published::delivered;
 use sp_base::items::{Items, push_some};
 use sp_base::number::CopyNo;
 use sp_copies::copies::Copies;
@@ -18,11 +19,11 @@ use std::alloc::{AllocError, Global};
 pub fn deliveries(
     alloc: Global,
     store: &Copies,
-    messages: &[Published],
+    messages: &Messages,
     copies: &[MadeCopy],
 ) -> Result<Items<Delivery>, AllocError>
     requires few { (H : History) × Records store.now H × All (λ a. a.count ≤ 2 ^ 62) H.attempts }
-    ensures { IfOk result (λ ds. (L : Ledger) → Records store.now L.copies → messages.now ≡ L.messages → ds ≡ deliveries L copies.now) }
+    ensures { IfOk result (λ ds. (L : Ledger) → Records store.now L.copies → messages.now.items ≡ L.messages → ds ≡ deliveries L copies.now) }
 {
     let mut told = Vec::new(alloc);
     for copy in copies {
@@ -34,13 +35,13 @@ pub fn deliveries(
 fn delivery_of(
     alloc: Global,
     store: &Copies,
-    messages: &[Published],
+    messages: &Messages,
     copy: &MadeCopy,
 ) -> Result<Option<Delivery>, AllocError>
     requires few { (H : History) × Records store.now H × All (λ a. a.count ≤ 2 ^ 62) H.attempts }
-    ensures { IfOk result (λ d. (L : Ledger) → Records store.now L.copies → messages.now ≡ L.messages → d ≡ option_map (delivered L copy.now) (message_of L.messages copy.now.message)) }
+    ensures { IfOk result (λ d. (L : Ledger) → Records store.now L.copies → messages.now.items ≡ L.messages → d ≡ option_map (delivered L copy.now) (message_of L.messages copy.now.message)) }
 {
-    match find_message(messages, copy.message) {
+    match messages.find(copy.message) {
         None => Ok(None),
         Some(published) => {
             let attempt = attempts(store, copy.number) + 1;

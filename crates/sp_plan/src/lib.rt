@@ -6,6 +6,7 @@ pub mod asking;
 pub mod change;
 pub mod delivering;
 pub mod flow_changes;
+pub mod messages;
 pub mod need;
 pub mod plan;
 pub mod published;

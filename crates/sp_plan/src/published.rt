@@ -1,5 +1,3 @@
-ghost use Rattle.sp_ledger.specs.Ledger.{message_of};
-ghost use Rattle.std.specs.Option.{option_copied};
 ghost use Rattle.std.specs.Prelude.{◌≡◌, IfOk};
 
 use sp_base::moment::Moment;
@@ -24,13 +22,6 @@ impl Model for Published {
     ghost Value = { ledger.Published };
 
     ghost view = { λ p. record { number = p.number; message = p.message; moment = p.moment } };
-}
-
-/// The message of a number, where it is among them.
-pub fn find_message(messages: &[Published], number: MessageNo) -> Option<&Published>
-    ensures { option_copied result ≡ message_of messages.now number }
-{
-    messages.iter().find(|m| m.number.value() == number.value())
 }
 
 /// A copy with its message, handed out for this attempt.

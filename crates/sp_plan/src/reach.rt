@@ -6,7 +6,7 @@ ghost use Rattle.sp_ledger.specs.Ledger.{message_of};
 ghost use Rattle.sp_ledger.specs.OnFlows.{is_taken};
 ghost use Rattle.std.specs.Prelude.{◌≡◌, ◌++◌, ◌∷◌, [], IfOk, OnOk, filter, take};
 
-use crate::published::{Published, find_message};
+use crate::messages::Messages;
 use sp_access::flows::Flows;
 use sp_base::items::Items;
 use sp_base::number::FlowNo;
@@ -23,7 +23,7 @@ pub fn first_taken(
     alloc: Global,
     flows: &Flows,
     store: &Copies,
-    messages: &[Published],
+    messages: &Messages,
     endpoint: &Endpoint,
     flow: FlowNo,
     copies: &[MadeCopy],
@@ -31,7 +31,7 @@ pub fn first_taken(
 ) -> Result<Items<MadeCopy>, AllocError>
     ensures { IfOk result (λ taken. (H : History) → Records store.now H → taken
         ≡ take most (filter (λ c. is_taken flows.now.flows flow endpoint.now.attributes c.partition
-        (holder_in H endpoint.now.number c.partition) (message_of messages.now c.message)) copies.now)) }
+        (holder_in H endpoint.now.number c.partition) (message_of messages.now.items c.message)) copies.now)) }
 {
     let mut taken = Vec::new(alloc);
     for copy in copies {
@@ -49,15 +49,15 @@ pub fn first_taken(
 fn is_taken(
     flows: &Flows,
     store: &Copies,
-    messages: &[Published],
+    messages: &Messages,
     endpoint: &Endpoint,
     flow: FlowNo,
     copy: &MadeCopy,
 ) -> bool
     ensures { (H : History) → Records store.now H → result ≡ is_taken flows.now.flows flow endpoint.now.attributes
-        copy.now.partition (holder_in H endpoint.now.number copy.now.partition) (message_of messages.now copy.now.message) }
+        copy.now.partition (holder_in H endpoint.now.number copy.now.partition) (message_of messages.now.items copy.now.message) }
 {
-    match find_message(messages, copy.message) {
+    match messages.find(copy.message) {
         None => false,
         Some(published) => may_take(
             flows,

@@ -209,7 +209,7 @@ impl Core {
     {
         let reply = Reply::Pull {
             flow,
-            deliveries: deliveries(alloc, &self.copies, self.messages.as_slice(), copies)?,
+            deliveries: deliveries(alloc, &self.copies, &self.messages, copies)?,
         };
         let changes = handed_out(alloc, flow, copies)?;
         Ok(Plan { changes, reply })
@@ -237,7 +237,7 @@ impl Core {
         let most = count.min(window.saturating_sub(held)) as usize;
         let later = self.later(moment);
         let waiting = self.copies.waiting(alloc, endpoint.number, later)?;
-        let (flows, store, messages) = (&self.flows, &self.copies, self.messages.as_slice());
+        let (flows, store, messages) = (&self.flows, &self.copies, &self.messages);
         let copies = waiting.as_slice();
         first_taken(alloc, flows, store, messages, endpoint, flow, copies, most)
     }

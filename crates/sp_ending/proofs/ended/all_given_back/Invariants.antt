@@ -8,5 +8,5 @@ use Rattle.sp_ending.proofs.ended.all_given_back.Given as goal
 
 abbrev pub invariant-loop-copy : goal.invariant-loop-copy
 invariant-loop-copy l =
-    (L : Ledger) → Tabled l.endpoints.items l.copies l.messages L → MayAll MayReturn l.list L →
+    (L : Ledger) → Tabled l.endpoints.items l.copies l.messages.items L → MayAll MayReturn l.list L →
     IsOnWay returning MayReturn L (take l.copy-index l.list) (drop l.copy-index l.list) l.draft

@@ -6,4 +6,4 @@ use Rattle.sp_plan.proofs.delivering.deliveries.Given as goal
 
 abbrev pub invariant-loop-copy : goal.invariant-loop-copy
 invariant-loop-copy l =
-    (L : Ledger) → Records l.store L.copies → l.messages ≡ L.messages → l.told.items ≡ deliveries L (take l.copy-index l.copies)
+    (L : Ledger) → Records l.store L.copies → l.messages.items ≡ L.messages → l.told.items ≡ deliveries L (take l.copy-index l.copies)

@@ -10,5 +10,5 @@ pub returns-then-len-most : goal.returns-then-len-most
 returns-then-len-most c H kept =
     c.from_vec.ensures
     ∙ full {X = MadeCopy} (λ k. is_taken c.args.flows.now.flows c.args.flow c.args.endpoint.now.attributes k.partition
-    (holder_in H c.args.endpoint.now.number k.partition) (message_of c.args.messages.now k.message)) c.args.copies.now c.args.most
+    (holder_in H c.args.endpoint.now.number k.partition) (message_of c.args.messages.now.items k.message)) c.args.copies.now c.args.most
     c.loop-copy.copy-index c.loop-copy.taken.items (c.loop-copy.invariant H kept) (omega (arith, c.if-len-most.true, c.len.ensures))

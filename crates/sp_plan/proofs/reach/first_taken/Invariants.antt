@@ -9,4 +9,4 @@ abbrev pub invariant-loop-copy : goal.invariant-loop-copy
 invariant-loop-copy l =
     (H : History) → Records l.store H →
     AreTaken (λ c. is_taken l.flows.flows l.flow l.endpoint.attributes c.partition
-    (holder_in H l.endpoint.number c.partition) (message_of l.messages c.message)) l.copies l.copy-index l.most l.taken.items
+    (holder_in H l.endpoint.number c.partition) (message_of l.messages.items c.message)) l.copies l.copy-index l.most l.taken.items

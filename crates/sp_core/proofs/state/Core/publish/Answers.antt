@@ -2,13 +2,25 @@ use Rattle.sp_core.proofs.Standing.{may_be_shared, published, standing}
 use Rattle.sp_core.specs.Inside.{core_state}
 use Rattle.sp_core.specs.State.{CoreState}
 use Rattle.sp_ledger.specs.Changes.{changed, publishes}
+use Rattle.sp_ledger.specs.Ledger.{Published}
 use Rattle.std.proofs.Common.{ap, arith, subst, sym, ◌∙◌}
 use Rattle.std.specs.Prelude.{ℕ, ◌+◌, ◌<◌, ◌≤◌}
-use Rattle.std.specs.Prelude.{length}
+use Rattle.std.proofs.lemmas.List.Elements.{All-weaker}
+use Rattle.std.specs.Prelude.{All, List, length}
 use Rattle.sp_core.proofs.state.Core.publish.Goals as goal
 
-pub add-requires : goal.add-requires
-add-requires c = subst (λ (k : CoreState). 0 < k.messages.room) (sym c.self.view_is) (let r = c.requires.room.messages in omega (arith, r))
+pub add-requires-clause-above : goal.add-requires-clause-above
+add-requires-clause-above c =
+    let m = c.requires.may in
+    let s = standing _ _ m.0 c.self.view_is m.1 in
+    let next : ℕ = c.self.inside.next_message in
+    let same = s.next_message in
+    subst (λ (ms : List Published). All (λ p. p.number < next) ms) (sym s.messages)
+    (All-weaker (λ (p : Published). p.number < m.0.next.message) (λ (p : Published). p.number < next)
+    (λ p lt. omega (arith, lt, same)) m.0.messages s.ledger.sound.messages.below)
+
+pub add-requires-clause-room : goal.add-requires-clause-room
+add-requires-clause-room c = subst (λ (k : CoreState). 0 < k.messages.room) (sym c.self.view_is) (let r = c.requires.room.messages in omega (arith, r))
 
 pub publish-requires-clause-room : goal.publish-requires-clause-room
 publish-requires-clause-room c = rw c.as_slice.ensures (subst (λ (k : CoreState). length c.args.shares ≤ k.copies.spare) (sym c.self.view_is) c.requires.room.copies)

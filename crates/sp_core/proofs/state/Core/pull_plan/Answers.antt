@@ -15,7 +15,7 @@ returns c L s =
     let t = standing _ _ L c.self.view_is s in
     λ i. record {
       changes = (ap changes_of c.in_ok-changes.ensures ∙ each_change {X = MadeCopy} (λ k. Holds k.number c.args.flow) c.args.copies.now) i;
-      reply = replies.Pull c.args.flow (c.in_ok-deliveries.ensures L t.copies (c.as_slice.ensures ∙ t.messages) i);
+      reply = replies.Pull c.args.flow (c.in_ok-deliveries.ensures L t.copies t.messages i);
     }
 
 pub deliveries-requires : goal.deliveries-requires
