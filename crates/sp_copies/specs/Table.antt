@@ -1,5 +1,5 @@
 -- Rows of copies whose numbers follow one another.
-use Rattle.std.specs.Prelude.{◌≡◌, ◌==◌, ◌≤◌, ◌+◌, ◌-◌, ◌&&◌, ◌++◌, ℕ, Bool, true, List, [], ◌∷◌, All, Option, Some, None, find, is_none, is_some, length, map, nat_lt, take, if◌then◌else◌}
+use Rattle.std.specs.Prelude.{◌≡◌, ◌==◌, ◌≤◌, ◌+◌, ◌-◌, ◌&&◌, ◌++◌, ℕ, Bool, true, List, [], ◌∷◌, All, Option, Some, None, drop, find, is_none, is_some, length, map, nat_lt, take, if◌then◌else◌}
 use Rattle.sp_copies.specs.declared.made.MadeCopy.{MadeCopy}
 use Rattle.sp_copies.specs.declared.made.Row.{Row}
 
@@ -22,17 +22,31 @@ is_done r = is_some r.closing && is_none r.holder
 abbrev pub AreDone : List Row → ℕ → Type 0
 AreDone rows many = All (λ r. is_done r ≡ true) (take many rows)
 
--- the numbers follow on the first, and so many rows from the front are done
-pub record IsTable (rows : List Row) (first many : ℕ) : Type 0 where
+-- no flow holds the copies of the rows behind so many
+abbrev pub AreLoose : List Row → ℕ → Type 0
+AreLoose rows many = All (λ r. is_none r.holder ≡ true) (drop many rows)
+
+-- the numbers follow on the first, so many rows from the front are done, and those behind so many are not held
+pub record IsTable (rows : List Row) (first many handed : ℕ) : Type 0 where
   pub follow : Follow first rows
   pub within : many ≤ length rows
   pub done : AreDone rows many
+  pub to : handed ≤ length rows
+  pub loose : AreLoose rows handed
 
 -- what is left of rows without some at the front that are done
 pub record IsRest (rows rest : List Row) : Type 0 where
   pub front : List Row
   pub all : front ++ rest ≡ rows
   pub done : All (λ r. is_done r ≡ true) front
+
+-- what is left of rows without some at the front that are done, and some at the end that are not held
+pub record HasHeld (rows among : List Row) : Type 0 where
+  pub front : List Row
+  pub back : List Row
+  pub all : front ++ (among ++ back) ≡ rows
+  pub done : All (λ r. is_done r ≡ true) front
+  pub loose : All (λ r. is_none r.holder ≡ true) back
 
 -- the row of a copy that was just made
 abbrev pub new_row : MadeCopy → Row

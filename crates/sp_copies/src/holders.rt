@@ -1,5 +1,5 @@
 // Who holds which copies, and which copies no flow holds.
-ghost use Rattle.std.specs.Prelude.{◌≡◌, ◌==◌, ◌&&◌, not, filter, find, map, count_by, option_and_then, IfOk};
+ghost use Rattle.std.specs.Prelude.{◌≡◌, ◌==◌, ◌&&◌, not, filter, find, map, count_by, option_and_then, take, IfOk};
 ghost use Rattle.sp_copies.specs.History.{has_come};
 ghost use Rattle.sp_copies.specs.Rows.{is_free_row, is_held_by_row, is_held_row, made_in};
 
@@ -98,6 +98,23 @@ pub fn waiting(
     rows.iter()
         .filter(|r| { r.endpoint == endpoint && r.is_free() && !has_come(r.deadline, moment) })
         .map(|r| r.made())
+        .collect(alloc)
+}
+
+/// The first `most` of them.
+pub fn first_waiting(
+    alloc: Global,
+    rows: &[Row],
+    endpoint: EndpointNo,
+    moment: Moment,
+    most: usize,
+) -> Result<Vec<MadeCopy>, AllocError>
+    ensures { IfOk result (λ copies. copies.items ≡ take most (map made_in (filter (λ r. (r.endpoint == endpoint) && is_free_row r && not (has_come r.deadline moment)) rows.now))) }
+{
+    rows.iter()
+        .filter(|r| { r.endpoint == endpoint && r.is_free() && !has_come(r.deadline, moment) })
+        .map(|r| r.made())
+        .take(most)
         .collect(alloc)
 }
 

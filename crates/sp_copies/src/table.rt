@@ -1,5 +1,5 @@
-ghost use Rattle.std.specs.Prelude.{◌≡◌, ◌≤◌, ◌<◌, ◌+◌, ◌++◌, ◌∷◌, [], length, OnOk};
-ghost use Rattle.sp_copies.specs.Table.{AreDone, IsRest, new_row, place_in, row_at, with_row};
+ghost use Rattle.std.specs.Prelude.{◌≡◌, ◌≤◌, ◌<◌, ◌+◌, ◌++◌, ◌∷◌, [], length, max, is_none, OnOk, if◌then◌else◌};
+ghost use Rattle.sp_copies.specs.Table.{AreDone, HasHeld, IsRest, new_row, place_in, row_at, with_row};
 
 use crate::made::{MadeCopy, Row};
 use sp_base::number::CopyNo;
@@ -8,12 +8,14 @@ use std::marker::Model;
 
 /// The rows of copies by number. The numbers follow one another, so a row is found at the place
 /// that its number gives, with no search and no index. The leading rows that are done are counted,
-/// so who looks for spooled copies begins behind them.
+/// so who looks for spooled copies begins behind them, and so are those up to the last one that was
+/// ever held, so who looks for held copies ends there.
 #[derive(Drop)]
 pub struct Table {
     rows: Vec<Row>,
     first: u64,
     done: usize,
+    handed: usize,
 }
 
 impl Model for Table {
@@ -25,7 +27,7 @@ impl Model for Table {
 
     ghost view = { λ t. record { rows = t.rows.items; first = t.first; room = vec_capacity t.rows - vec_len t.rows } };
 
-    ghost invariant = { λ t. IsTable t.rows.items t.first t.done };
+    ghost invariant = { λ t. IsTable t.rows.items t.first t.done t.handed };
 }
 
 impl Table {
@@ -38,6 +40,7 @@ impl Table {
             rows: Vec::new(alloc),
             first,
             done: 0,
+            handed: 0,
         }
     }
 
@@ -53,6 +56,13 @@ impl Table {
         ensures { IsRest self.now.rows result.now }
     {
         &self.rows[self.done..]
+    }
+
+    /// Those of them that end with the last one that was ever held.
+    pub fn handed(&self) -> &[Row]
+        ensures { HasHeld self.now.rows result.now }
+    {
+        &self.rows[self.done..self.done.max(self.handed)]
     }
 
     /// How many rows there are.
@@ -129,6 +139,7 @@ impl Table {
     {
         if let Some(place) = self.place_of(row.number) {
             self.rows[place] = row;
+            self.handed = handed_to(self.handed, place + 1, &row);
             self.done = first_undone(self.rows.as_slice(), self.done.min(place));
         }
     }
@@ -146,4 +157,14 @@ fn first_undone(rows: &[Row], from: usize) -> usize
         at += 1;
     }
     at
+}
+
+// How many rows end with the last one that was ever held, where this row is the last of so many.
+fn handed_to(handed: usize, many: usize, row: &Row) -> usize
+    ensures { result ≡ if is_none row.now.holder then handed else max handed many }
+{
+    match row.holder {
+        None => handed,
+        Some(_) => handed.max(many),
+    }
 }

@@ -161,6 +161,9 @@ fn a_copy_waits_until_its_deadline(rt: HostRuntime) -> Result<(), Fail> {
     assert_eq!(rt; before.as_slice(), [lasting, dated].as_slice());
     let then = waiting(alloc, &copies, queue, 1000)?;
     assert_eq!(rt; then.as_slice(), [lasting].as_slice());
+    let first = copies.first_waiting(alloc, queue, Moment::START, 1)?;
+    assert_eq!(rt; first.len(), 1);
+    assert_eq!(rt; first.as_slice().first().map(|c| c.number), Some(lasting));
     Ok(())
 }
 
@@ -363,6 +366,11 @@ fn plain_used(rows: &[Plain], queue: EndpointNo) -> usize {
         .count()
 }
 
+// How many copies a flow holds.
+fn plain_held(rows: &[Plain], flow: FlowNo) -> usize {
+    rows.iter().filter(|row| row.holder == Some(flow)).count()
+}
+
 #[test]
 fn a_random_walk_agrees_with_plain_rows(rt: HostRuntime) -> Result<(), Fail> {
     let alloc = rt.alloc();
@@ -378,12 +386,13 @@ fn a_random_walk_agrees_with_plain_rows(rt: HostRuntime) -> Result<(), Fail> {
         assert_eq!(rt; copies.is_spooled(row.number), row.is_open);
         assert_eq!(rt; copies.holder_of(row.number), row.holder);
     }
-    for queue in 1..4u64 {
-        let queue = EndpointNo::of(queue);
-        assert_eq!(rt;
-            copies.used(queue) as usize,
-            plain_used(rows.as_slice(), queue)
-        );
+    for number in 1..4u64 {
+        let queue = EndpointNo::of(number);
+        let flow = FlowNo::of(number);
+        let used = plain_used(rows.as_slice(), queue);
+        assert_eq!(rt; copies.used(queue) as usize, used);
+        let held = plain_held(rows.as_slice(), flow);
+        assert_eq!(rt; copies.count_held_by(flow), held);
     }
     Ok(())
 }

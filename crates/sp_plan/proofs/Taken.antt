@@ -1,8 +1,9 @@
 -- The first elements that pass, one looked at after another.
 use Rattle.std.proofs.Common.{◌≡◌, ◌∙◌, ◌+◌, ◌<◌, ◌≤◌, ◌++◌, ℕ, Bool, true, false, List, [], ◌∷◌, length, take, drop, get_or, refl, ap, arith, sym, subst}
 use Rattle.std.specs.Prelude.{filter}
+use Rattle.std.proofs.Math.Nat.{min-le_right}
 use Rattle.std.proofs.Math.Seq.{take-append_seam, take-length}
-use Rattle.std.proofs.lemmas.List.{length-append, take-append-drop, take_all, take_more}
+use Rattle.std.proofs.lemmas.List.{length-append, length-take, take-append-drop, take-append-le, take_all, take_more}
 use Rattle.std.proofs.lemmas.List.Elements.{filter-append}
 
 -- those that pass so far are all of those so far, and no more than are wanted
@@ -42,3 +43,15 @@ module _ {X : Type 0} (p : X → Bool) (xs : List X) (most : ℕ) where
   ended taken so =
       let all : taken ≡ filter p xs = so.are ∙ ap (filter p) (take-length xs) in
       sym (ap (take most) (sym all) ∙ take_all most taken so.few)
+
+module _ {X : Type 0} (p : X → Bool) (xs : List X) (most : ℕ) where
+  -- where enough of the first pass, those are the first that pass
+  pub enough : most ≤ length (take most (filter p (take most xs))) → take most (filter p (take most xs)) ≡ take most (filter p xs)
+  enough many =
+      let first : List X = filter p (take most xs) in
+      let later : List X = filter p (drop most xs) in
+      let all : filter p xs ≡ first ++ later =
+      ap (filter p) (sym (take-append-drop most xs)) ∙ filter-append p (take most xs) (drop most xs) in
+      let least = length-take most first in
+      let within = min-le_right most (length first) in
+      sym (ap (take most) all ∙ take-append-le most first later (omega (arith, many, least, within)))

@@ -90,7 +90,7 @@ impl Copies {
     pub fn holder(&self, endpoint: EndpointNo, partition: u64) -> Option<FlowNo>
         ensures { (H : History) → Records self.now H → result ≡ holder_in H endpoint partition }
     {
-        holders::holder_in(self.rows.rest(), endpoint, partition)
+        holders::holder_in(self.rows.handed(), endpoint, partition)
     }
 
     /// The flow that holds a copy.
@@ -127,7 +127,7 @@ impl Copies {
     pub fn held_by(&self, alloc: Global, flow: FlowNo) -> Result<Items<CopyNo>, AllocError>
         ensures { IfOk result (λ copies. (H : History) → Records self.now H → copies ≡ held_by H flow) }
     {
-        let copies = holders::held_by(alloc, self.rows.rest(), flow)?;
+        let copies = holders::held_by(alloc, self.rows.handed(), flow)?;
         Ok(Items::from_vec(copies))
     }
 
@@ -135,14 +135,14 @@ impl Copies {
     pub fn count_held_by(&self, flow: FlowNo) -> usize
         ensures { (H : History) → Records self.now H → result ≡ length (held_by H flow) }
     {
-        holders::count_held_by(self.rows.rest(), flow)
+        holders::count_held_by(self.rows.handed(), flow)
     }
 
     /// The same as they were made.
     pub fn held_copies(&self, alloc: Global, flow: FlowNo) -> Result<Items<MadeCopy>, AllocError>
         ensures { IfOk result (λ copies. (H : History) → Records self.now H → copies ≡ held_copies H flow) }
     {
-        let copies = holders::held_copies(alloc, self.rows.rest(), flow)?;
+        let copies = holders::held_copies(alloc, self.rows.handed(), flow)?;
         Ok(Items::from_vec(copies))
     }
 
@@ -150,7 +150,7 @@ impl Copies {
     pub fn all_held(&self, alloc: Global) -> Result<Items<MadeCopy>, AllocError>
         ensures { IfOk result (λ copies. (H : History) → Records self.now H → copies ≡ all_held H) }
     {
-        let copies = holders::all_held(alloc, self.rows.rest())?;
+        let copies = holders::all_held(alloc, self.rows.handed())?;
         Ok(Items::from_vec(copies))
     }
 
@@ -222,6 +222,20 @@ impl Copies {
         ensures { IfOk result (λ copies. (H : History) → Records self.now H → copies ≡ waiting_copies H endpoint moment) }
     {
         let copies = holders::waiting(alloc, self.rows.rest(), endpoint, moment)?;
+        Ok(Items::from_vec(copies))
+    }
+
+    /// The first `most` of them. No copy behind those is looked at.
+    pub fn first_waiting(
+        &self,
+        alloc: Global,
+        endpoint: EndpointNo,
+        moment: Moment,
+        most: usize,
+    ) -> Result<Items<MadeCopy>, AllocError>
+        ensures { IfOk result (λ copies. (H : History) → Records self.now H → copies ≡ take most (waiting_copies H endpoint moment)) }
+    {
+        let copies = holders::first_waiting(alloc, self.rows.rest(), endpoint, moment, most)?;
         Ok(Items::from_vec(copies))
     }
 }

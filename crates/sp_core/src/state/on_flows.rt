@@ -9,10 +9,10 @@ ghost use Rattle.sp_core.specs.Stands.{Stands};
 ghost use Rattle.sp_endpoint.specs.Endpoints.{numbered};
 ghost use Rattle.sp_ledger.specs.Changes.{holds};
 ghost use Rattle.sp_ledger.specs.Ledger.{Ledger};
-ghost use Rattle.sp_ledger.specs.OnFlows.{bind, fits_kind, is_rebound, outdated, rebound, restart, unbind, deliveries, pull, pulled, settle};
+ghost use Rattle.sp_ledger.specs.OnFlows.{bind, can_take, fits_kind, is_rebound, outdated, rebound, restart, unbind, deliveries, pull, pulled, settle};
 ghost use Rattle.sp_ledger.specs.Step.{first_refusal, is_spent, rule, begun};
 ghost use Rattle.std.specs.Option.{option_copied};
-ghost use Rattle.std.specs.Prelude.{◌≡◌, ◌&&◌, ◌==◌, ◌∷◌, [], IfOk, None, Some, map, nat_le, not, true, length};
+ghost use Rattle.std.specs.Prelude.{◌≡◌, ◌&&◌, ◌==◌, ◌∷◌, [], IfOk, None, Some, filter, map, nat_le, not, take, true, length};
 
 use crate::state::Core;
 use sp_base::declined::Declined;
@@ -221,7 +221,8 @@ impl Core {
         self.endpoints.find_number(endpoint)
     }
 
-    // As many copies as are asked for, and as the window leaves, of those that the flow may take.
+    // As many copies as are asked for, and as the window leaves, of those that the flow may take. Where
+    // the first that wait are all taken, no others are looked at.
     fn pulled(
         &self,
         alloc: Global,
@@ -236,9 +237,32 @@ impl Core {
         let window = endpoint.attributes.max_delivered_unacked_msgs_per_flow();
         let most = count.min(window.saturating_sub(held)) as usize;
         let later = self.later(moment);
+        let first = self
+            .copies
+            .first_waiting(alloc, endpoint.number, later, most)?;
+        let taken = self.taken(alloc, endpoint, flow, first.as_slice(), most)?;
+        if taken.len() >= most {
+            return Ok(taken);
+        }
+        if first.len() < most {
+            return Ok(taken);
+        }
         let waiting = self.copies.waiting(alloc, endpoint.number, later)?;
+        self.taken(alloc, endpoint, flow, waiting.as_slice(), most)
+    }
+
+    // The first of some copies of an endpoint that a flow may take.
+    fn taken(
+        &self,
+        alloc: Global,
+        endpoint: &Endpoint,
+        flow: FlowNo,
+        copies: &[MadeCopy],
+        most: usize,
+    ) -> Result<Items<MadeCopy>, AllocError>
+        ensures { IfOk result (λ taken. (L : Ledger) → Stands self.now L → taken ≡ take most (filter (can_take L endpoint.now flow) copies.now)) }
+    {
         let (flows, store, messages) = (&self.flows, &self.copies, &self.messages);
-        let copies = waiting.as_slice();
         first_taken(alloc, flows, store, messages, endpoint, flow, copies, most)
     }
 

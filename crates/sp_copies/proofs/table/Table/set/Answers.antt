@@ -1,7 +1,7 @@
 use Rattle.std.proofs.Common.{◌≡◌, None, Some, sym, ◌∙◌, arith}
 use Rattle.std.proofs.Math.Nat.{min-le_left}
 use Rattle.std.proofs.lemmas.List.{length-set}
-use Rattle.sp_copies.proofs.Settled.{done_set}
+use Rattle.sp_copies.proofs.Settled.{done_set, loose_set, to_set}
 use Rattle.sp_copies.proofs.InPlace.{Follow-with, place_there, with-from, with-nowhere}
 use Rattle.sp_copies.specs.Table.{place_in}
 use Rattle.sp_copies.proofs.table.Table.set.Goals as goal
@@ -28,6 +28,8 @@ invariant_of-self c =
           (Follow-with c.args.row t.rows.items t.first c.self.invariant.follow);
       within = rw (← c.as_slice.ensures.value) c.first_undone-self-inside.ensures.within;
       done = rw (← c.as_slice.ensures.value) c.first_undone-self-inside.ensures.done;
+      to = rw c.handed_to-self-inside.ensures (to_set t.rows.items c.args.row t.handed c.in-Some.place c.self.invariant.to there.within);
+      loose = rw c.handed_to-self-inside.ensures (loose_set t.rows.items c.args.row t.handed c.in-Some.place c.self.invariant.loose);
     }
 
 pub returns-in-Some-clause-rows : goal.returns-in-Some-clause-rows
